@@ -8,7 +8,7 @@
 set -eu
 cd "$(dirname "$0")/.."
 . bench/program.sh
-make_program refused "flume_host event_core avro_frame host_memory avro_binary channel_face txn_core world_laws memory_channel hop_core interceptors selectors regex_steps plug_in avro_hop sink_runner source_put avro_ends" "anyhow"
+make_program refused "flume_host event_core avro_frame host_memory avro_binary channel_face txn_core memory_channel hop_attempt interceptors selectors regex_steps plug_in avro_hop sink_runner source_put avro_ends" "anyhow"
 cp bench/programs/refused.rt.in "$program/src/main.rt"
 cd "$program"
 export LC_ALL=C

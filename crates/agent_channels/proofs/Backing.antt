@@ -10,11 +10,12 @@ use Rattle.flume_host.specs.Told.{Told}
 use Rattle.file_channel.specs.Stands.{FileState}
 use Rattle.two_channels.specs.declared.shared.EitherClosed.{EitherClosed}
 use Rattle.two_channels.specs.declared.shared.EitherClosed.TheVariants as closed
-use Rattle.agent_channels.specs.Openings.{HostTold}
-use Rattle.agent_channels.specs.Closings.{AreOfWishes, DiskBack, DisksBack, IsOfPlace, back_of, backs_of, faults_of, told_of}
-use Rattle.agent_channels.specs.declared.wish.ChannelPlace.{ChannelPlace}
-use Rattle.agent_channels.specs.declared.wish.ChannelPlace.TheVariants.{Memory, Folder}
-use Rattle.agent_channels.specs.declared.wish.ChannelWish.{ChannelWish}
+use Rattle.channel_wishes.specs.Openings.{HostTold}
+use Rattle.channel_wishes.specs.Places.{AreOfWishes, IsOfPlace}
+use Rattle.agent_channels.specs.Closings.{DiskBack, DisksBack, back_of, backs_of, faults_of, told_of}
+use Rattle.channel_wishes.specs.declared.wish.ChannelPlace.{ChannelPlace}
+use Rattle.channel_wishes.specs.declared.wish.ChannelPlace.TheVariants.{Memory, Folder}
+use Rattle.channel_wishes.specs.declared.wish.ChannelWish.{ChannelWish}
 
 -- ---- texts
 

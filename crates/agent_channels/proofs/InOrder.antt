@@ -11,13 +11,14 @@ use Rattle.two_channels.specs.declared.shared.EitherClosed.{EitherClosed}
 use Rattle.two_channels.specs.declared.shared.EitherClosed.TheVariants as closed
 use Rattle.two_channels.specs.declared.shared.EitherShared.{EitherShared}
 use Rattle.two_channels.specs.declared.shared.EitherShared.TheVariants as share
-use Rattle.agent_channels.specs.Openings.{HostTold, IsOfKind, IsOpened, Refuses, TakesDisk}
-use Rattle.agent_channels.specs.Closings.{AreClosedOf, AreOfWishes, AreOut, IsClosedOf, IsOfPlace, IsOutIn}
-use Rattle.agent_channels.specs.Several.{AddsOpened, AreNew, AreOpened, AreUnused, ComeBack, IsUnused, RefusesAt, RefusesLast, WereOpened}
-use Rattle.agent_channels.specs.declared.opened.OpenedChannel.{OpenedChannel}
-use Rattle.agent_channels.specs.declared.wish.ChannelPlace.{ChannelPlace}
-use Rattle.agent_channels.specs.declared.wish.ChannelPlace.TheVariants.{Memory, Folder}
-use Rattle.agent_channels.specs.declared.wish.ChannelWish.{ChannelWish}
+use Rattle.channel_wishes.specs.Openings.{HostTold, IsOfKind, IsOpened, Refuses, TakesDisk}
+use Rattle.channel_wishes.specs.Places.{AreClosedOf, AreOfWishes, AreOut, IsClosedOf, IsOfPlace, IsOutIn}
+use Rattle.channel_wishes.specs.Opened.{AddsOpened, AreOpened, WereOpened}
+use Rattle.agent_channels.specs.Several.{AreNew, AreUnused, ComeBack, IsUnused, RefusesAt, RefusesLast}
+use Rattle.channel_wishes.specs.declared.opened.OpenedChannel.{OpenedChannel}
+use Rattle.channel_wishes.specs.declared.wish.ChannelPlace.{ChannelPlace}
+use Rattle.channel_wishes.specs.declared.wish.ChannelPlace.TheVariants.{Memory, Folder}
+use Rattle.channel_wishes.specs.declared.wish.ChannelWish.{ChannelWish}
 use Rattle.agent_channels.proofs.Backing.{other_path, same_path}
 use Rattle.agent_channels.proofs.Joining.{fresh_base, fresh_new}
 

@@ -1,8 +1,8 @@
 -- Channels that were opened, one and in a row.
-use Rattle.std.proofs.Common.{◌≡◌, ◌⊎◌, ◌<◌, ◌≤◌, ◌++◌, ℕ, zero, suc, List, [], ◌∷◌, length, map, Option, Some, None, Result, Ok, Err, refl, sym, ap, subst, ◌∙◌, append_assoc, arith}
+use Rattle.std.proofs.Common.{◌≡◌, ◌⊎◌, ◌<◌, ◌≤◌, ℕ, zero, suc, List, [], ◌∷◌, length, Option, Some, None, Result, Ok, Err, refl, sym, ap, subst, ◌∙◌, arith}
 use Rattle.std.specs.List.{remove}
 use Rattle.std.specs.Prelude.{IfOk, OnOk, slice_index_or, string_bytes}
-use Rattle.std.proofs.lemmas.List.{append-nil, length-append, map-append}
+use Rattle.std.proofs.lemmas.List.{length-append}
 use Rattle.atomic_table.specs.Seated.{TableId}
 use Rattle.flume_host.specs.HostState.{HostState}
 use Rattle.flume_host.specs.Told.{Tells}
@@ -14,10 +14,10 @@ use Rattle.channel_face.specs.declared.replies.OpenCause.TheVariants.{DiskFault,
 use Rattle.shared_channel.specs.Passes.{Known, new_pass, new_passes}
 use Rattle.two_channels.specs.Shares.{IsDisk}
 use Rattle.two_channels.specs.declared.shared.EitherShared.{EitherShared}
-use Rattle.agent_channels.specs.Openings.{Begins, BeginsOnDisk, GivesBack, HandsNone, HostTold, IsFresh, IsOfKind, IsOpened, IsOut, Refuses, TakesDisk, in_memory}
-use Rattle.agent_channels.specs.declared.wish.ChannelPlace.{ChannelPlace}
-use Rattle.agent_channels.specs.declared.wish.ChannelPlace.TheVariants.{Memory, Folder}
-use Rattle.agent_channels.specs.declared.wish.ChannelWish.{ChannelWish}
+use Rattle.channel_wishes.specs.Openings.{Begins, BeginsOnDisk, GivesBack, HandsNone, HostTold, IsFresh, IsOfKind, IsOpened, IsOut, Refuses, TakesDisk, in_memory}
+use Rattle.channel_wishes.specs.declared.wish.ChannelPlace.{ChannelPlace}
+use Rattle.channel_wishes.specs.declared.wish.ChannelPlace.TheVariants.{Memory, Folder}
+use Rattle.channel_wishes.specs.declared.wish.ChannelWish.{ChannelWish}
 
 -- there are as many new passes as were asked for
 pub length_new : (table : TableId) (start : Opening) (passes n : ℕ) → length (new_passes table start passes n) ≡ n
@@ -99,12 +99,3 @@ ok_of_two (Err e) P Q R step p q = tt
 pub ok_of_three : {T E : Type 0} (r : Result T E) (P Q R : T → Type 0) (O : Type 0) → ((x : T) → P x → Q x → O → R x) → IfOk r P → IfOk r Q → OnOk r O → IfOk r R
 ok_of_three (Ok x) P Q R O step p q o = step x p q o
 ok_of_three (Err e) P Q R O step p q o = tt
-
--- lists that were taken apart, from the back
-pub gained_last : {X Y : Type 0} (f : X → Y) (xs front : List X) (x : X) (old mid new : List Y) → xs ≡ front ++ x ∷ [] → mid ≡ old ++ map f front → new ≡ mid ++ f x ∷ [] → new ≡ old ++ map f xs
-gained_last f xs front x old mid new split is pushed =
-    pushed ∙ ap (λ l. l ++ f x ∷ []) is ∙ append_assoc old (map f front) (f x ∷ []) ∙ ap (λ l. old ++ l) (sym (map-append f front (x ∷ []))) ∙ ap (λ l. old ++ map f l) (sym split)
-
-pub gained_none : {X Y : Type 0} (f : X → Y) (xs : List X) (old : List Y) → length xs ≡ 0 → old ≡ old ++ map f xs
-gained_none f [] old none = sym (append-nil old)
-gained_none f (x ∷ xs) old none = absurd (omega (arith, none))

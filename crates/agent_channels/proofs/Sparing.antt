@@ -13,11 +13,12 @@ use Rattle.two_channels.specs.declared.shared.EitherClosed.{EitherClosed}
 use Rattle.two_channels.specs.declared.shared.EitherClosed.TheVariants as closed
 use Rattle.two_channels.specs.declared.shared.EitherShared.{EitherShared}
 use Rattle.two_channels.specs.declared.shared.EitherShared.TheVariants as share
-use Rattle.agent_channels.specs.Openings.{HostTold, IsOfKind}
-use Rattle.agent_channels.specs.Closings.{DisksBack, IsOfPlace, IsOutIn, back_of}
+use Rattle.channel_wishes.specs.Openings.{HostTold, IsOfKind}
+use Rattle.channel_wishes.specs.Places.{IsOfPlace, IsOutIn}
+use Rattle.agent_channels.specs.Closings.{DisksBack, back_of}
 use Rattle.agent_channels.specs.Several.{IsSpared, IsUnused}
-use Rattle.agent_channels.specs.declared.wish.ChannelPlace.{ChannelPlace}
-use Rattle.agent_channels.specs.declared.wish.ChannelPlace.TheVariants.{Memory, Folder}
+use Rattle.channel_wishes.specs.declared.wish.ChannelPlace.{ChannelPlace}
+use Rattle.channel_wishes.specs.declared.wish.ChannelPlace.TheVariants.{Memory, Folder}
 
 -- a call that is not counted is no fault
 uncounted : (call : Call) → is_counted call ≡ false → is_fault call ≡ false

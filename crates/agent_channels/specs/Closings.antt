@@ -1,18 +1,15 @@
 -- How the closed channels of a run are given back.
-use Rattle.std.specs.Prelude.{◌≡◌, ℕ, List, [], ◌∷◌, ◌++◌, Option, IsTrue, bytes_eq, string_bytes, if◌then◌else◌}
-use Rattle.std.specs.List.{AllByRecursion, sum_by}
+use Rattle.std.specs.Prelude.{◌≡◌, ℕ, List, [], ◌∷◌, ◌++◌, Option, bytes_eq, string_bytes, if◌then◌else◌}
+use Rattle.std.specs.List.{sum_by}
 use Rattle.flume_host.specs.Causes.{Counts}
-use Rattle.flume_host.specs.HostState.{Folders}
 use Rattle.flume_host.specs.Told.{Told}
 use Rattle.file_channel.specs.Stands.{FileState}
 use Rattle.two_channels.specs.declared.shared.EitherClosed.{EitherClosed}
 use Rattle.two_channels.specs.declared.shared.EitherClosed.TheVariants as closed
-use Rattle.two_channels.specs.declared.shared.EitherShared.{EitherShared}
-use Rattle.two_channels.specs.declared.shared.EitherShared.TheVariants as share
-use Rattle.agent_channels.specs.Openings.{HostTold}
-use Rattle.agent_channels.specs.declared.wish.ChannelPlace.{ChannelPlace}
-use Rattle.agent_channels.specs.declared.wish.ChannelPlace.TheVariants.{Memory, Folder}
-use Rattle.agent_channels.specs.declared.wish.ChannelWish.{ChannelWish}
+use Rattle.channel_wishes.specs.Openings.{HostTold}
+use Rattle.channel_wishes.specs.declared.wish.ChannelPlace.{ChannelPlace}
+use Rattle.channel_wishes.specs.declared.wish.ChannelPlace.TheVariants.{Memory, Folder}
+use Rattle.channel_wishes.specs.declared.wish.ChannelWish.{ChannelWish}
 
 -- A disk that comes back: the path of its folder, what it shows, and how many faults it has counted.
 pub record DiskBack : Type 0 where
@@ -39,35 +36,6 @@ pub record DisksBack (backs : List DiskBack) (a b : HostTold) : Type 0 where
   pub state : b.state ≡ record a.state { disk_faults = b.state.disk_faults }
   pub counts : Counts a.state.disk_faults b.state.disk_faults (faults_of backs)
 
--- the disk of a channel in a folder was opened, so it can be given back
-abbrev pub IsOutIn : Folders → ChannelPlace → Type 0
-IsOutIn folders Memory = Unit {0}
-IsOutIn folders (Folder path) = IsTrue (folders.disk_opened (string_bytes path))
-
-abbrev pub AreOut : Folders → List ChannelWish → Type 0
-AreOut folders wishes = AllByRecursion (λ (wish : ChannelWish). IsOutIn folders wish.place) wishes
-
--- the channel is wanted in a folder, whose disk was opened, so it can be given back
-abbrev pub IsInFolder : Folders → ChannelPlace → Type 0
-IsInFolder folders Memory = ⊥
-IsInFolder folders (Folder path) = IsTrue (folders.disk_opened (string_bytes path))
-
--- it is wanted in memory
-abbrev pub IsInMemory : ChannelPlace → Type 0
-IsInMemory Memory = Unit {0}
-IsInMemory (Folder path) = ⊥
-
--- a closed channel is on a disk exactly where that was wanted, and that disk can be given back
-abbrev pub IsOfPlace : {A B : Type 0} → Folders → ChannelPlace → EitherClosed A B → Type 0
-IsOfPlace folders place (closed.Disk c) = IsInFolder folders place
-IsOfPlace folders place (closed.Memory c) = IsInMemory place
-
--- these are the closed channels of these wishes, in their order
-abbrev pub AreOfWishes : {A B : Type 0} → Folders → List ChannelWish → List (EitherClosed A B) → Type 0
-AreOfWishes folders [] [] = Unit {0}
-AreOfWishes folders (wish ∷ wishes) (c ∷ cs) = IsOfPlace folders wish.place c × AreOfWishes folders wishes cs
-AreOfWishes folders wishes cs = ⊥
-
 -- a disk that shows this and counted so many faults, for the folder that is wanted
 abbrev pub disk_back : ChannelPlace → Option Told → ℕ → List DiskBack
 disk_back Memory told faults = []
@@ -84,14 +52,3 @@ module _ {D B : Type 0} (told : D → Option Told) (faults : D → ℕ) where
   backs_of [] cs = []
   backs_of (wish ∷ wishes) [] = []
   backs_of (wish ∷ wishes) (c ∷ cs) = back_of wish.place c ++ backs_of wishes cs
-
--- it is on a disk exactly where the shared channel is
-abbrev pub IsClosedOf : {A B : Type 0} → EitherShared A B → EitherClosed A B → Type 0
-IsClosedOf (share.Disk s) (closed.Disk c) = Unit {0}
-IsClosedOf (share.Memory s) (closed.Memory c) = Unit {0}
-IsClosedOf s c = ⊥
-
-abbrev pub AreClosedOf : {A B : Type 0} → List (EitherShared A B) → List (EitherClosed A B) → Type 0
-AreClosedOf [] [] = Unit {0}
-AreClosedOf (s ∷ ss) (c ∷ cs) = IsClosedOf s c × AreClosedOf ss cs
-AreClosedOf ss cs = ⊥

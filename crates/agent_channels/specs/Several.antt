@@ -1,38 +1,19 @@
 -- How the channels of a run are opened, one after the other.
-use Rattle.std.specs.Prelude.{◌≡◌, ◌<◌, ◌+◌, ℕ, Bool, List, [], ◌∷◌, ◌++◌, Option, length, map, true, string_bytes}
+use Rattle.std.specs.Prelude.{◌≡◌, ◌<◌, ◌+◌, ℕ, List, [], ◌∷◌, ◌++◌, Option, length, true, string_bytes}
 use Rattle.atomic_table.specs.Seated.{TableId}
-use Rattle.flume_host.specs.HostState.{Folders}
 use Rattle.flume_host.specs.Told.{Told}
-use Rattle.channel_face.specs.History.{Opening, Step}
+use Rattle.channel_face.specs.History.{Opening}
 use Rattle.channel_face.specs.declared.replies.OpenCause.{OpenCause}
 use Rattle.file_channel.specs.Stands.{FileState, StandsOver}
 use Rattle.shared_channel.specs.Counting.{StandsAgreeing}
 use Rattle.shared_channel.specs.Passes.{Known, new_passes}
 use Rattle.channel_lock.specs.Calls.{has}
-use Rattle.channel_lock.specs.Views.{View}
-use Rattle.two_channels.specs.Shares.{LeftIn}
-use Rattle.two_channels.specs.declared.shared.EitherClosed.{EitherClosed}
-use Rattle.two_channels.specs.declared.shared.EitherShared.{EitherShared}
-use Rattle.agent_channels.specs.Openings.{Begins, HostTold, IsOpened, Refuses, TakesDisk}
-use Rattle.agent_channels.specs.Closings.{AreClosedOf, AreOfWishes, AreOut, DisksBack, IsClosedOf}
-use Rattle.agent_channels.specs.declared.opened.OpenedChannel.{OpenedChannel}
-use Rattle.agent_channels.specs.declared.wish.ChannelPlace.{ChannelPlace}
-use Rattle.agent_channels.specs.declared.wish.ChannelPlace.TheVariants.{Memory, Folder}
-use Rattle.agent_channels.specs.declared.wish.ChannelWish.{ChannelWish}
-
--- each channel that was wanted was opened and shared, in order
-abbrev pub AreOpened : {A B : Type 0} → List ChannelWish → List (OpenedChannel A B) → HostTold → HostTold → Type 0
-AreOpened [] [] a b = b ≡ a
-AreOpened (wish ∷ wishes) (c ∷ cs) a b = (m : HostTold) × IsOpened a m wish c.share c.home c.others.items × AreOpened wishes cs m b
-AreOpened wishes cs a b = ⊥
-
-abbrev pub WereOpened : {A B : Type 0} → List ChannelWish → List (OpenedChannel A B) → Type 0
-WereOpened wishes cs = (a b : HostTold) × AreOpened wishes cs a b
-
--- a channel that was wanted was opened, and added to these
-abbrev pub AddsOpened : {A B : Type 0} → ChannelWish → HostTold → HostTold → List (OpenedChannel A B) → List (OpenedChannel A B) → Type 0
-AddsOpened {A} {B} wish a b before after =
-    (c : OpenedChannel A B) × (after ≡ before ++ c ∷ []) × IsOpened a b wish c.share c.home c.others.items
+use Rattle.channel_wishes.specs.Openings.{Begins, HostTold, Refuses, TakesDisk}
+use Rattle.agent_channels.specs.Closings.{DisksBack}
+use Rattle.channel_wishes.specs.declared.opened.OpenedChannel.{OpenedChannel}
+use Rattle.channel_wishes.specs.declared.wish.ChannelPlace.{ChannelPlace}
+use Rattle.channel_wishes.specs.declared.wish.ChannelPlace.TheVariants.{Memory, Folder}
+use Rattle.channel_wishes.specs.declared.wish.ChannelWish.{ChannelWish}
 
 -- these are all passes of a channel, of which none has made a call
 abbrev pub AreNew : TableId → Known → List Known → Type 0
@@ -89,14 +70,3 @@ pub record RefusesLast {A B : Type 0} (front : List ChannelWish) (cs : List (Ope
   pub left : HostTold
   pub why : Refuses wish.place wish.limits.capacity a left cause
   pub others : AreUnused front cs left b
-
--- What a channel left that was closed is on a disk exactly where the shared one was.
-abbrev pub LeftFits : {A B : Type 0} → (A → Opening → List Step → Type 0) → (A → Bool) → (B → Opening → List Step → Type 0) → (B → Bool) → Type 0
-LeftFits {A} {B} disk tells memory tells' =
-    (s : EitherShared A B) (v : View) (c : EitherClosed A B) → LeftIn disk tells memory tells' s v c → IsClosedOf s c
-
--- The channels that a run opened can be given back once they are closed, as long as the host knows their folders.
-abbrev pub ClosedFit : Type 0 → Type 0 → Type 0
-ClosedFit A B =
-    (wishes : List ChannelWish) (cs : List (OpenedChannel A B)) (ends : List (EitherClosed A B)) (folders : Folders) (a b : HostTold)
-    → AreOpened wishes cs a b → AreClosedOf (map (λ (c : OpenedChannel A B). c.share) cs) ends → AreOut folders wishes → AreOfWishes folders wishes ends

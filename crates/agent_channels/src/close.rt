@@ -2,9 +2,10 @@
 ghost use Rattle.std.specs.Prelude.{◌≡◌, ◌+◌, ◌++◌, ◌≤◌, length, map};
 ghost use Rattle.std.specs.Vec.{vec_capacity};
 ghost use Rattle.two_channels.specs.Shares.{pass_of};
-ghost use Rattle.agent_channels.specs.Closings.{AreOfWishes, DisksBack, IsInFolder, IsOfPlace, back_of, backs_of, disk_back};
+ghost use Rattle.channel_wishes.specs.Places.{AreOfWishes, IsInFolder, IsOfPlace};
+ghost use Rattle.agent_channels.specs.Closings.{DisksBack, back_of, backs_of, disk_back};
 
-use crate::wish::{ChannelPlace, ChannelWish};
+use channel_wishes::{ChannelPlace, ChannelWish};
 use file_channel::FileChannel;
 use flume_host::Host;
 use memory_channel::MemoryChannel;

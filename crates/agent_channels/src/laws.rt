@@ -1,5 +1,5 @@
 // A law of channels that a run opened.
-ghost use Rattle.agent_channels.specs.Several.{ClosedFit, LeftFits};
+ghost use Rattle.channel_wishes.specs.Opened.{ClosedFit, LeftFits};
 
 use channel_face::Channel;
 

@@ -2,12 +2,11 @@
 ghost use Rattle.std.specs.Prelude.{◌≡◌, ◌⊎◌, ◌<◌, IfOk, IfErr, OnOk};
 ghost use Rattle.channel_face.specs.declared.replies.OpenCause.{OpenCause};
 ghost use Rattle.two_channels.specs.Shares.{IsDisk};
-ghost use Rattle.agent_channels.specs.Openings.{BeginsOnDisk, Fails, GivesBack, HandsNone, IsFresh, IsOpened, IsOut, Refuses, in_memory};
+ghost use Rattle.channel_wishes.specs.Openings.{BeginsOnDisk, Fails, GivesBack, HandsNone, IsFresh, IsOpened, IsOut, Refuses, in_memory};
 
-use crate::opened::OpenedChannel;
 use crate::sharing::{share_in_memory, share_on_disk};
-use crate::wish::{ChannelPlace, ChannelWish};
 use channel_face::{Limits, OpenCause};
+use channel_wishes::{ChannelPlace, ChannelWish, OpenedChannel};
 use file_channel::{FileChannel, OpenRefused, open_channel};
 use flume_host::{Disk, Host, NameRefused, Steps};
 use memory_channel::MemoryChannel;

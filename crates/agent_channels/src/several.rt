@@ -1,16 +1,15 @@
 // The channels of a run are opened in order.
 ghost use Rattle.std.specs.Prelude.{◌≡◌, ◌<◌, ◌≤◌, [], All, IfErr, IfOk, OnErr, OnOk, length};
 ghost use Rattle.std.specs.Vec.{vec_capacity};
-ghost use Rattle.agent_channels.specs.Openings.{Refuses};
-ghost use Rattle.agent_channels.specs.Closings.{AreOut};
-ghost use Rattle.agent_channels.specs.Several.{AddsOpened, AreOpened, RefusesAt, RefusesLast, WereOpened};
+ghost use Rattle.channel_wishes.specs.Openings.{Refuses};
+ghost use Rattle.channel_wishes.specs.Places.{AreOut};
+ghost use Rattle.channel_wishes.specs.Opened.{AddsOpened, AreOpened, WereOpened};
+ghost use Rattle.agent_channels.specs.Several.{RefusesAt, RefusesLast};
 
 use crate::one::open_one;
-use crate::opened::OpenedChannel;
-use crate::refused::ChannelRefused;
 use crate::unused::give_all_unused;
-use crate::wish::ChannelWish;
 use channel_face::OpenCause;
+use channel_wishes::{ChannelRefused, ChannelWish, OpenedChannel};
 use file_channel::FileChannel;
 use flume_host::Host;
 use memory_channel::MemoryChannel;

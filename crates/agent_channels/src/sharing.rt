@@ -7,8 +7,8 @@ ghost use Rattle.shared_channel.specs.Passes.{new_passes};
 ghost use Rattle.two_channels.specs.Shares.{IsDisk, table_of};
 ghost use Rattle.txn_core.specs.Counted.{StandsAs};
 
-use crate::opened::OpenedChannel;
 use channel_face::{Channel, OpenCause};
+use channel_wishes::OpenedChannel;
 use file_channel::{FileChannel, OpenRefused};
 use flume_host::Disk;
 use memory_channel::MemoryChannel;

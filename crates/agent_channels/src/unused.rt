@@ -2,14 +2,14 @@
 ghost use Rattle.std.specs.Prelude.{◌≡◌, ◌+◌, [], ◌∷◌, length};
 ghost use Rattle.shared_channel.specs.Passes.{new_passes};
 ghost use Rattle.two_channels.specs.Shares.{StandsClosed, table_of};
-ghost use Rattle.agent_channels.specs.Openings.{IsOfKind};
-ghost use Rattle.agent_channels.specs.Closings.{AreOut, IsOutIn};
-ghost use Rattle.agent_channels.specs.Several.{AreNew, AreUnused, IsUnused, TookOthers, WereOpened};
+ghost use Rattle.channel_wishes.specs.Openings.{IsOfKind};
+ghost use Rattle.channel_wishes.specs.Places.{AreOut, IsOutIn};
+ghost use Rattle.channel_wishes.specs.Opened.{WereOpened};
+ghost use Rattle.agent_channels.specs.Several.{AreNew, AreUnused, IsUnused, TookOthers};
 
 use crate::close::give_back;
-use crate::opened::OpenedChannel;
-use crate::wish::{ChannelPlace, ChannelWish};
 use channel_face::Channel;
+use channel_wishes::{ChannelPlace, ChannelWish, OpenedChannel};
 use file_channel::FileChannel;
 use flume_host::Host;
 use memory_channel::MemoryChannel;

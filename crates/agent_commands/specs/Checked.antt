@@ -5,8 +5,8 @@ use Rattle.prop_text.specs.Pairs.{Pair}
 use Rattle.prop_text.specs.Reads.{Reads}
 use Rattle.prop_text.specs.declared.fault.PropRefused.{PropRefused}
 use Rattle.prop_text.specs.declared.fault.PropRefused.TheVariants as text
-use Rattle.flume_config.specs.Plans.{Plans}
-use Rattle.flume_config.specs.declared.plan.Plan.{Plan}
+use Rattle.agent_plan.specs.Plans.{Plans}
+use Rattle.agent_plan.specs.declared.plan.Plan.{Plan}
 use Rattle.plan_objects.specs.Asks.{AreClaimed, AreTaken, HaveObjects, step_asks}
 use Rattle.plan_objects.specs.declared.handed.HandedIn.{HandedIn}
 use Rattle.plan_refused.specs.declared.refused.PlanRefused.{PlanRefused}

@@ -8,8 +8,9 @@ ghost use Rattle.agent_commands.specs.Checked.{Checked, HasItsObjects, IsBeside,
 ghost use Rattle.agent_commands.specs.Checked.{Judges, PlansAgent, PlansWhole, end_of, plan_line};
 
 use crate::errors::say_error;
+use agent_plan::Plan;
 use agent_words::RunError;
-use flume_config::{Plan, PlanRefused, plan_of};
+use flume_config::{PlanRefused, plan_of};
 use flume_host::{Failed, FileRefused, Host, Sink, write_out};
 use plan_objects::{ClaimRefused, HandedIn, Objects, claim_objects};
 use prop_text::{Properties, read_properties};

@@ -1,11 +1,11 @@
 -- Objects that are dealt out, one part after the other.
 use Rattle.std.proofs.Common.{◌≡◌, ◌∙◌, ◌<◌, ◌≤◌, ◌+◌, ◌-◌, ◌⊎◌, inl, inr, ℕ, zero, suc, Bool, List, [], ◌∷◌, ◌++◌, length, get_or, flat_map, take, drop, refl, sym, ap, subst, arith, append_assoc, length-append, length-drop, drop-cons, drop-drop}
 use Rattle.std.proofs.lemmas.List.{append-nil}
-use Rattle.flume_config.specs.declared.plan.SourcePlan.{SourcePlan}
-use Rattle.flume_config.specs.declared.plan.SourceKind.{SourceKind}
-use Rattle.flume_config.specs.declared.plan.SourceKind.TheVariants.{Netcat, Avro, Stdin}
-use Rattle.flume_config.specs.declared.plan.StepPlan.{StepPlan}
-use Rattle.flume_config.specs.declared.plan.StepPlan.TheVariants as plan
+use Rattle.agent_plan.specs.declared.plan.SourcePlan.{SourcePlan}
+use Rattle.agent_plan.specs.declared.plan.SourceKind.{SourceKind}
+use Rattle.agent_plan.specs.declared.plan.SourceKind.TheVariants.{Netcat, Avro, Stdin}
+use Rattle.agent_plan.specs.declared.plan.StepPlan.{StepPlan}
+use Rattle.agent_plan.specs.declared.plan.StepPlan.TheVariants as plan
 use Rattle.chain_plan.specs.declared.plan.LinkPlan.{LinkPlan}
 use Rattle.chain_plan.specs.declared.plan.LinkPlan.TheVariants as link
 use Rattle.plan_objects.specs.Asks.{Ask, asks_of_source, asks_of_step, has_asks, step_asks}

@@ -7,10 +7,10 @@ use Rattle.selectors.specs.declared.selector.Selector.{Selector}
 use Rattle.selectors.specs.declared.selector.Selector.TheVariants.{Replicating, Multiplexing}
 use Rattle.source_put.specs.Accepts.{NamesBelow}
 use Rattle.source_put.specs.declared.chain.HostNames.{HostNames}
-use Rattle.flume_config.specs.Values.{seen_pair}
-use Rattle.flume_config.specs.declared.plan.SourcePlan.{SourcePlan}
-use Rattle.flume_config.specs.declared.plan.SourceKind.{SourceKind}
-use Rattle.flume_config.specs.declared.plan.SourceKind.TheVariants.{Netcat, Avro, Stdin}
+use Rattle.agent_plan.specs.Values.{seen_pair}
+use Rattle.agent_plan.specs.declared.plan.SourcePlan.{SourcePlan}
+use Rattle.agent_plan.specs.declared.plan.SourceKind.{SourceKind}
+use Rattle.agent_plan.specs.declared.plan.SourceKind.TheVariants.{Netcat, Avro, Stdin}
 use Rattle.plan_laws.specs.Limits.{IsSourceLimited}
 use Rattle.plan_laws.specs.Names.{IsWithin}
 use Rattle.agent_drafts.specs.declared.draft.SourceDraft.{SourceDraft}

@@ -27,9 +27,9 @@ use Rattle.source_put.specs.declared.chain.HostNames.{HostNames}
 use Rattle.chain_plan.specs.Builds.{AreBuilt, IsBuilt}
 use Rattle.chain_plan.specs.declared.plan.LinkPlan.{LinkPlan}
 use Rattle.chain_plan.specs.declared.plan.LinkPlan.TheVariants as link_plan
-use Rattle.flume_config.specs.Values.{seen_pair}
-use Rattle.flume_config.specs.declared.plan.StepPlan.{StepPlan}
-use Rattle.flume_config.specs.declared.plan.StepPlan.TheVariants as plan
+use Rattle.agent_plan.specs.Values.{seen_pair}
+use Rattle.agent_plan.specs.declared.plan.StepPlan.{StepPlan}
+use Rattle.agent_plan.specs.declared.plan.StepPlan.TheVariants as plan
 use Rattle.agent_drafts.specs.Copies.{AreSameKeys, AreSameNames, IsSameSelector, IsSameStep, seen_group}
 use Rattle.agent_drafts.specs.Drafts.{Deals, IsLink}
 use Rattle.agent_drafts.specs.Means.{DoesTheSame, IsAsPlanned}

@@ -4,7 +4,7 @@ use Rattle.std.proofs.lemmas.List.{append-nil, get_or_default, map-append, take_
 use Rattle.std.proofs.lemmas.List.Elements.{All-nil}
 use Rattle.std.proofs.lemmas.List.Concat.{flat_map-append}
 use Rattle.selectors.specs.Choices.{places_below}
-use Rattle.flume_config.specs.declared.plan.SourcePlan.{SourcePlan}
+use Rattle.agent_plan.specs.declared.plan.SourcePlan.{SourcePlan}
 use Rattle.source_put.specs.declared.chain.HostNames.{HostNames}
 use Rattle.agent_outside.specs.Ends.{places_by}
 use Rattle.agent_outside.proofs.Placing.{places_next, replicate_more}

@@ -8,7 +8,7 @@ use Rattle.regex_steps.specs.declared.keys.RegexKeys.{RegexKeys}
 use Rattle.regex_steps.specs.declared.keys.RegexKeys.TheVariants.{Filter, Extract, Replace}
 use Rattle.selectors.specs.declared.selector.Selector.{Selector}
 use Rattle.selectors.specs.declared.selector.Selector.TheVariants.{Replicating, Multiplexing}
-use Rattle.flume_config.specs.Values.{seen_pair}
+use Rattle.agent_plan.specs.Values.{seen_pair}
 use Rattle.source_put.specs.declared.chain.HostNames.{HostNames}
 
 abbrev pub IsSameStep : Step → Step → Type 0

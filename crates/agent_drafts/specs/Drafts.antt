@@ -3,11 +3,11 @@ use Rattle.std.specs.Prelude.{◌≡◌, ◌++◌, ◌<◌, ◌^◌, ℕ, zero, 
 use Rattle.selectors.specs.Choices.{places_below}
 use Rattle.chain_plan.specs.declared.plan.LinkPlan.{LinkPlan}
 use Rattle.chain_plan.specs.declared.plan.LinkPlan.TheVariants as link
-use Rattle.flume_config.specs.declared.plan.SourcePlan.{SourcePlan}
-use Rattle.flume_config.specs.declared.plan.SourceKind.{SourceKind}
-use Rattle.flume_config.specs.declared.plan.SourceKind.TheVariants.{Netcat, Avro, Stdin}
-use Rattle.flume_config.specs.declared.plan.StepPlan.{StepPlan}
-use Rattle.flume_config.specs.declared.plan.StepPlan.TheVariants as plan
+use Rattle.agent_plan.specs.declared.plan.SourcePlan.{SourcePlan}
+use Rattle.agent_plan.specs.declared.plan.SourceKind.{SourceKind}
+use Rattle.agent_plan.specs.declared.plan.SourceKind.TheVariants.{Netcat, Avro, Stdin}
+use Rattle.agent_plan.specs.declared.plan.StepPlan.{StepPlan}
+use Rattle.agent_plan.specs.declared.plan.StepPlan.TheVariants as plan
 use Rattle.source_put.specs.declared.chain.HostNames.{HostNames}
 use Rattle.source_worker.specs.declared.ends.SessionRules.{SessionRules}
 use Rattle.source_worker.specs.declared.ends.SessionRules.TheVariants as rule

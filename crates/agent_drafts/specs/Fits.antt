@@ -1,8 +1,8 @@
 -- What a draft of a source has of what its worker asks for.
 use Rattle.std.specs.Prelude.{◌<◌, ◌^◌, ℕ, List, All, length, Ok}
 use Rattle.prop_text.specs.Pairs.{Pair}
-use Rattle.flume_config.specs.declared.plan.Plan.{Plan}
-use Rattle.flume_config.specs.Plans.{Plans}
+use Rattle.agent_plan.specs.declared.plan.Plan.{Plan}
+use Rattle.agent_plan.specs.Plans.{Plans}
 use Rattle.source_put.specs.Accepts.{NamesBelow}
 use Rattle.source_put.specs.declared.chain.HostNames.{HostNames}
 use Rattle.source_worker.specs.Workers.{HasLimit}

@@ -14,8 +14,8 @@ use Rattle.source_put.specs.declared.chain.ChainLink.TheVariants as link
 use Rattle.source_put.specs.declared.chain.HostNames.{HostNames}
 use Rattle.chain_plan.specs.Builds.{AreBuilt}
 use Rattle.chain_plan.specs.declared.plan.LinkPlan.{LinkPlan}
-use Rattle.flume_config.specs.declared.plan.StepPlan.{StepPlan}
-use Rattle.flume_config.specs.declared.plan.StepPlan.TheVariants as plan
+use Rattle.agent_plan.specs.declared.plan.StepPlan.{StepPlan}
+use Rattle.agent_plan.specs.declared.plan.StepPlan.TheVariants as plan
 use Rattle.agent_drafts.specs.Copies.{AreSameKeys, AreSameNames, IsSameSelector, IsSameStep}
 use Rattle.agent_drafts.specs.Drafts.{Deals, IsLink}
 

@@ -1,6 +1,6 @@
 // Copies of the parts of a plan.
 ghost use Rattle.std.specs.Prelude.{◌≡◌, ◌<◌, ◌^◌, IfOk, length, map, option_map, string_bytes};
-ghost use Rattle.flume_config.specs.Values.{seen_pair};
+ghost use Rattle.agent_plan.specs.Values.{seen_pair};
 ghost use Rattle.agent_drafts.specs.Copies.{AreSameKeys, AreSameNames, IsSameSelector, IsSameStep, seen_group};
 
 use interceptors::Step;

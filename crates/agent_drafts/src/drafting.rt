@@ -9,7 +9,7 @@ use crate::copies::{copied_channels, copied_names, copied_selector};
 use crate::draft::{Drafts, SourceDraft};
 use crate::links::links;
 use agent_outside::listeners_of;
-use flume_config::{Plan, SourceKind, SourcePlan};
+use agent_plan::{Plan, SourceKind, SourcePlan};
 use netcat_source::LineRules;
 use source_put::HostNames;
 use source_worker::SessionRules;

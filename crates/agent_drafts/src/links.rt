@@ -4,8 +4,8 @@ ghost use Rattle.plan_objects.specs.Asks.{asks_of_step};
 ghost use Rattle.agent_drafts.specs.Drafts.{Deals, IsLink};
 
 use crate::copies::{copied_keys, copied_step};
+use agent_plan::StepPlan;
 use chain_plan::LinkPlan;
-use flume_config::StepPlan;
 use std::alloc::{AllocError, Global};
 
 // What an interceptor is built of. If it asks for an object, it takes the first of these.

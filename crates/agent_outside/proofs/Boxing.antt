@@ -1,6 +1,6 @@
 -- Sinks that take the objects that they ask for, one after the other.
 use Rattle.std.proofs.Common.{◌≡◌, ◌∙◌, ◌<◌, ℕ, zero, suc, List, [], ◌∷◌, ◌++◌, length, get_or, drop, length-append, Option, refl, sym, ap, subst, arith}
-use Rattle.flume_config.specs.declared.plan.SinkPlan.{SinkPlan}
+use Rattle.agent_plan.specs.declared.plan.SinkPlan.{SinkPlan}
 use Rattle.agent_sinks.specs.declared.sink.AgentSink.{AgentSink}
 use Rattle.plan_objects.specs.Asks.{HasObject, HaveObjects}
 use Rattle.agent_outside.specs.Sinks.{AreBoxed, IsBoxed, first_of, rest_of}

@@ -10,7 +10,7 @@ use Rattle.flume_host.specs.HandedOut.{CameBack, ComesBack, HandedOut, IsOut, Ta
 use Rattle.flume_host.specs.Listens.{Endpoint, IsFrom}
 use Rattle.flume_host.specs.Told.{Tells}
 use Rattle.flume_host.proofs.Telling.{follows, tells_more, tells_same}
-use Rattle.flume_config.specs.declared.plan.SourcePlan.{SourcePlan}
+use Rattle.agent_plan.specs.declared.plan.SourcePlan.{SourcePlan}
 use Rattle.agent_outside.specs.declared.listener.SourceListener.{SourceListener}
 use Rattle.agent_outside.specs.Ends.{AllBack, AreOfSources, AreOut, Listens, ListensAt, ListenersBack, count_at, end_at, end_of, ends_of, is_end}
 

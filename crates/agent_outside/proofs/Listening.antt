@@ -8,7 +8,7 @@ use Rattle.flume_host.specs.Told.{Tells}
 use Rattle.flume_host.specs.declared.names.NameRefused.{NameRefused}
 use Rattle.flume_host.specs.declared.names.NameRefused.TheVariants.{NoMemory}
 use Rattle.flume_host.proofs.Telling.{follows, tells_same}
-use Rattle.flume_config.specs.declared.plan.SourcePlan.{SourcePlan}
+use Rattle.agent_plan.specs.declared.plan.SourcePlan.{SourcePlan}
 use Rattle.agent_outside.specs.declared.listener.SourceListener.{SourceListener}
 use Rattle.agent_outside.specs.Ends.{AllBack, AreOfSources, AreOut, ListensAt, ListenersBack, come_back, count_at, end_at, end_back, ends_of}
 use Rattle.agent_outside.specs.Listening.{AllOut, CameUnused, EachFresh, IsFresh, ListenerAdded, ListenerUnopened, ListenersOpened, ListenersOut, ListensRefused, unused}

@@ -7,7 +7,7 @@ use Rattle.flume_host.specs.HostState.{Folders, HostState}
 use Rattle.flume_host.specs.Listens.{Endpoint}
 use Rattle.flume_host.specs.Rolled.{Rolled}
 use Rattle.flume_host.specs.declared.names.NameRefused.{NameRefused}
-use Rattle.flume_config.specs.declared.plan.SinkPlan.{SinkPlan}
+use Rattle.agent_plan.specs.declared.plan.SinkPlan.{SinkPlan}
 use Rattle.agent_sinks.specs.declared.sink.AgentSink.{AgentSink}
 use Rattle.avro_ends.specs.Dialing.{DialTold}
 use Rattle.agent_outside.specs.Backs.{RollBack, RollsBack, RollsOut, Reopened}

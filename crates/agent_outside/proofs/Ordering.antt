@@ -3,9 +3,9 @@ use Rattle.std.proofs.Common.{◌≡◌, ◌∙◌, ◌<◌, ◌≤◌, ℕ, Lis
 use Rattle.std.proofs.lemmas.List.{append-nil}
 use Rattle.flume_host.specs.HostState.{Folders}
 use Rattle.flume_host.specs.Rolled.{Rolled}
-use Rattle.flume_config.specs.declared.plan.SinkPlan.{SinkPlan}
-use Rattle.flume_config.specs.declared.plan.SinkKind.{SinkKind}
-use Rattle.flume_config.specs.declared.plan.SinkKind.TheVariants as plan
+use Rattle.agent_plan.specs.declared.plan.SinkPlan.{SinkPlan}
+use Rattle.agent_plan.specs.declared.plan.SinkKind.{SinkKind}
+use Rattle.agent_plan.specs.declared.plan.SinkKind.TheVariants as plan
 use Rattle.agent_sinks.specs.declared.sink.AgentSink.{AgentSink}
 use Rattle.agent_sinks.specs.declared.sink.AgentSink.TheVariants.{Null, Roll, Avro, Boxed}
 use Rattle.agent_outside.specs.Backs.{RollBack, paths_of}

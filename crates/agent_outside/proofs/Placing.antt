@@ -2,9 +2,9 @@
 use Rattle.std.proofs.Common.{◌≡◌, ◌∙◌, ◌<◌, ◌+◌, ℕ, zero, suc, Bool, true, false, List, [], ◌∷◌, ◌++◌, length, get_or, replicate, take, All, sym, ap, subst, arith, append_assoc}
 use Rattle.std.proofs.lemmas.List.{append-nil, length-append, replicate-append-replicate}
 use Rattle.std.proofs.lemmas.List.Elements.{All-append, All-nil, All-replicate}
-use Rattle.flume_config.specs.declared.plan.SourcePlan.{SourcePlan}
-use Rattle.flume_config.specs.declared.plan.SourceKind.{SourceKind}
-use Rattle.flume_config.specs.declared.plan.SourceKind.TheVariants.{Netcat, Avro, Stdin}
+use Rattle.agent_plan.specs.declared.plan.SourcePlan.{SourcePlan}
+use Rattle.agent_plan.specs.declared.plan.SourceKind.{SourceKind}
+use Rattle.agent_plan.specs.declared.plan.SourceKind.TheVariants.{Netcat, Avro, Stdin}
 use Rattle.plan_objects.specs.Asks.{asks_of_source, has_asks}
 use Rattle.agent_outside.specs.Ends.{Listens, ListensAt, listeners_by, listeners_of, places, places_by}
 

@@ -5,9 +5,9 @@ use Rattle.flume_host.specs.HostState.{HostState}
 use Rattle.flume_host.specs.HandedOut.{CameBack, HandedOut}
 use Rattle.flume_host.specs.Listens.{Endpoint, IsFrom, LinksTold}
 use Rattle.flume_host.specs.Told.{Tells}
-use Rattle.flume_config.specs.declared.plan.SourcePlan.{SourcePlan}
-use Rattle.flume_config.specs.declared.plan.SourceKind.{SourceKind}
-use Rattle.flume_config.specs.declared.plan.SourceKind.TheVariants.{Netcat, Avro, Stdin}
+use Rattle.agent_plan.specs.declared.plan.SourcePlan.{SourcePlan}
+use Rattle.agent_plan.specs.declared.plan.SourceKind.{SourceKind}
+use Rattle.agent_plan.specs.declared.plan.SourceKind.TheVariants.{Netcat, Avro, Stdin}
 use Rattle.plan_objects.specs.Asks.{asks_of_source, has_asks}
 use Rattle.agent_outside.specs.declared.listener.SourceListener.{SourceListener}
 

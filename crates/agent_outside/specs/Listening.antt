@@ -5,7 +5,7 @@ use Rattle.flume_host.specs.HandedOut.{CameBack, FaultsBy, HandedOut, endpoint_o
 use Rattle.flume_host.specs.Listens.{Endpoint, LinksTold, no_links}
 use Rattle.flume_host.specs.Told.{Tells}
 use Rattle.flume_host.specs.declared.names.NameRefused.{NameRefused}
-use Rattle.flume_config.specs.declared.plan.SourcePlan.{SourcePlan}
+use Rattle.agent_plan.specs.declared.plan.SourcePlan.{SourcePlan}
 use Rattle.agent_outside.specs.declared.listener.SourceListener.{SourceListener}
 use Rattle.agent_outside.specs.Ends.{count_at, end_at}
 

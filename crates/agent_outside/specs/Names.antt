@@ -4,9 +4,9 @@ use Rattle.std.specs.List.{list_any}
 use Rattle.flume_host.specs.HandedOut.{Names}
 use Rattle.interceptors.specs.declared.step.Step.{Step}
 use Rattle.interceptors.specs.declared.step.Step.TheVariants.{Timestamp, Host, Static, Remove}
-use Rattle.flume_config.specs.declared.plan.SourcePlan.{SourcePlan}
-use Rattle.flume_config.specs.declared.plan.StepPlan.{StepPlan}
-use Rattle.flume_config.specs.declared.plan.StepPlan.TheVariants as plan
+use Rattle.agent_plan.specs.declared.plan.SourcePlan.{SourcePlan}
+use Rattle.agent_plan.specs.declared.plan.StepPlan.{StepPlan}
+use Rattle.agent_plan.specs.declared.plan.StepPlan.TheVariants as plan
 use Rattle.source_put.specs.Chains.{host_text}
 use Rattle.source_put.specs.declared.chain.HostNames.{HostNames}
 

@@ -4,9 +4,9 @@ use Rattle.flume_host.specs.HandedOut.{HandedOut}
 use Rattle.flume_host.specs.HostState.{Folders, HostState}
 use Rattle.flume_host.specs.Rolled.{Rolled}
 use Rattle.flume_host.specs.declared.names.NameRefused.{NameRefused}
-use Rattle.flume_config.specs.declared.plan.SinkPlan.{SinkPlan}
-use Rattle.flume_config.specs.declared.plan.SinkKind.{SinkKind}
-use Rattle.flume_config.specs.declared.plan.SinkKind.TheVariants as plan
+use Rattle.agent_plan.specs.declared.plan.SinkPlan.{SinkPlan}
+use Rattle.agent_plan.specs.declared.plan.SinkKind.{SinkKind}
+use Rattle.agent_plan.specs.declared.plan.SinkKind.TheVariants as plan
 use Rattle.roll_sink.specs.States.{state_of}
 use Rattle.agent_sinks.specs.declared.sink.AgentSink.{AgentSink}
 use Rattle.agent_sinks.specs.declared.sink.AgentSink.TheVariants.{Null, Roll, Avro, Boxed}

@@ -8,9 +8,9 @@ ghost use Rattle.agent_outside.specs.Sinks.{AreOpened, IsOpened, back_of, backs_
 ghost use Rattle.agent_outside.specs.Ends.{AreOfSources, AreOut, ListenersBack, Listens, ListensAt, comes_back, come_back, end_at, end_back, end_of, ends_of};
 
 use crate::listener::SourceListener;
+use agent_plan::{SinkKind, SinkPlan, SourceKind, SourcePlan};
 use agent_sinks::AgentSink;
 use avro_ends::{AvroSink, HasDialer};
-use flume_config::{SinkKind, SinkPlan, SourceKind, SourcePlan};
 use flume_host::Host;
 
 // Gives the folder or the dialer of a sink back, if it has one by its plan.

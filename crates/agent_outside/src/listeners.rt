@@ -5,7 +5,7 @@ ghost use Rattle.agent_outside.specs.Listening.{IsFresh, ListenerAdded, Listener
 
 use crate::give::{give_back_end, give_back_listeners};
 use crate::listener::SourceListener;
-use flume_config::{SourceKind, SourcePlan};
+use agent_plan::{SourceKind, SourcePlan};
 use flume_host::{Host, NameRefused};
 use std::alloc::Global;
 

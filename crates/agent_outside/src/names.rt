@@ -4,7 +4,7 @@ ghost use Rattle.std.specs.List.{list_any, AllZip};
 ghost use Rattle.flume_host.specs.HandedOut.{FaultsBy};
 ghost use Rattle.agent_outside.specs.Names.{AreTold, HostsAreRight, IsTold, asks, wants};
 
-use flume_config::{SourcePlan, StepPlan};
+use agent_plan::{SourcePlan, StepPlan};
 use flume_host::{Host, NameRefused};
 use interceptors::Step;
 use source_put::HostNames;

@@ -2,7 +2,7 @@
 ghost use Rattle.std.specs.Prelude.{◌≡◌, ◌++◌, All, IfOk, OnOk, replicate};
 ghost use Rattle.agent_outside.specs.Ends.{ListensAt, listeners_by, listeners_of, places};
 
-use flume_config::{SourceKind, SourcePlan};
+use agent_plan::{SourceKind, SourcePlan};
 use plan_objects::asks_for_object;
 use std::alloc::{AllocError, Global};
 

@@ -7,9 +7,9 @@ ghost use Rattle.agent_outside.specs.Sinks.{AreBoxed, IsBoxed, IsNew, IsOfKind, 
 ghost use Rattle.agent_outside.specs.Sinks.{SinksOpened, SinksRefused, back_of, first_of, rest_of};
 
 use crate::give::{give_back_sink, give_back_sinks};
+use agent_plan::{SinkKind, SinkPlan};
 use agent_sinks::AgentSink;
 use avro_ends::{AvroSink, HasDialer};
-use flume_config::{SinkKind, SinkPlan};
 use flume_host::{Host, NameRefused, NoMemory};
 use roll_sink::RollSink;
 use sink_runner::NullSink;

@@ -3,7 +3,7 @@ use Rattle.std.proofs.Common.{◌≡◌, ◌⊎◌, inl, inr, ℕ, List, [], Boo
 use Rattle.std.specs.declared.alloc.Global.{Global}
 use Rattle.std.specs.declared.vec.Vec.{Vec}
 use Rattle.prop_text.specs.declared.fault.PropRefused.TheVariants as text
-use Rattle.flume_config.specs.declared.plan.Plan.{Plan}
+use Rattle.agent_plan.specs.declared.plan.Plan.{Plan}
 use Rattle.plan_refused.specs.declared.refused.PlanRefused.TheVariants as plan
 use Rattle.plan_objects.specs.Asks.{AreClaimed, AreTaken}
 use Rattle.plan_objects.specs.declared.handed.HandedIn.{HandedIn}
@@ -18,7 +18,7 @@ use Rattle.flume_host.specs.Rolled.{Rolled}
 use Rattle.agent_sinks.specs.declared.sink.AgentSink.{AgentSink}
 use Rattle.avro_ends.specs.Dialing.{DialTold}
 use Rattle.run_opening.specs.Outside.{IsOutside}
-use Rattle.agent_channels.specs.Openings.{HostTold}
+use Rattle.channel_wishes.specs.Openings.{HostTold}
 use Rattle.agent_end.specs.Statuses.{run_status}
 use Rattle.agent_end.specs.declared.ends.RunEnds.{RunEnds}
 use Rattle.agent_run.specs.NotBegun.{ChannelNotOpened, DidNotBegin, IsRunRefused, NoPlan, NotBegun, NotPrepared, OutsideNotOpened}

@@ -4,16 +4,16 @@ use Rattle.std.proofs.lemmas.Bool.{false≢true}
 use Rattle.std.proofs.lemmas.Slice.Eq.{bytes_eq-Decides}
 use Rattle.prop_text.specs.Pairs.{Pair}
 use Rattle.prop_text.specs.Winners.{lookup}
-use Rattle.flume_config.specs.declared.plan.ChannelKind.{ChannelKind}
-use Rattle.flume_config.specs.declared.plan.ChannelKind.TheVariants.{File, Memory}
-use Rattle.flume_config.specs.declared.plan.ChannelPlan.{ChannelPlan}
-use Rattle.flume_config.specs.declared.plan.Plan.{Plan}
-use Rattle.flume_config.specs.Faults.{candidates, first_fault, least_missing}
-use Rattle.flume_config.specs.Laws.{IsFirst, IsLeast}
-use Rattle.flume_config.specs.Patterns.{asked_of, bad_ones}
-use Rattle.flume_config.specs.Plans.{Plans}
-use Rattle.flume_config.specs.Values.{ChannelNamed, IsChannelKind, Match, text_at, text_of}
-use Rattle.flume_config.proofs.First.{first_is_first, least_is_least}
+use Rattle.agent_plan.specs.declared.plan.ChannelKind.{ChannelKind}
+use Rattle.agent_plan.specs.declared.plan.ChannelKind.TheVariants.{File, Memory}
+use Rattle.agent_plan.specs.declared.plan.ChannelPlan.{ChannelPlan}
+use Rattle.agent_plan.specs.declared.plan.Plan.{Plan}
+use Rattle.agent_plan.specs.Faults.{candidates, first_fault, least_missing}
+use Rattle.agent_plan.specs.Laws.{IsFirst, IsLeast}
+use Rattle.agent_plan.specs.Patterns.{asked_of, bad_ones}
+use Rattle.agent_plan.specs.Plans.{Plans}
+use Rattle.agent_plan.specs.Values.{ChannelNamed, IsChannelKind, Match, text_at, text_of}
+use Rattle.agent_plan.proofs.First.{first_is_first, least_is_least}
 use Rattle.plan_judging.specs.Agents as agents
 use Rattle.plan_judging.specs.Agents.{candidates_of, channel_claims, channel_named, claims_of, components_of, group_claims, group_named, lists, sink_claims, sink_named, source_claims, source_named}
 use Rattle.plan_judging.specs.Candidates.{Candidates, Seen, each, nothing, ◌⊕◌}

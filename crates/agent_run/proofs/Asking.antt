@@ -1,12 +1,11 @@
 -- What the Avro sinks of a run asked on the links of their dialers.
-use Rattle.std.proofs.Common.{◌≡◌, ◌∙◌, ◌⊎◌, inl, inr, ◌<◌, ◌+◌, ℕ, suc, List, [], ◌∷◌, ◌++◌, length, map, take, Option, Some, None, Result, Ok, Err, get_or, slice_get, reverse, refl, sym, ap, subst, arith, string_bytes, zero-add}
+use Rattle.std.proofs.Common.{◌≡◌, ◌∙◌, ◌<◌, ◌+◌, ℕ, suc, List, [], ◌∷◌, ◌++◌, length, map, take, Option, Some, None, Result, Ok, Err, get_or, slice_get, reverse, refl, sym, ap, subst, arith, string_bytes, zero-add}
 use Rattle.std.specs.List.{AllByRecursion}
 use Rattle.channel_face.specs.Faces.{Own}
-use Rattle.channel_face.specs.History.{opening}
 use Rattle.event_core.specs.Content.{Content}
-use Rattle.flume_config.specs.declared.plan.SinkKind.{SinkKind}
-use Rattle.flume_config.specs.declared.plan.SinkKind.TheVariants as plan
-use Rattle.flume_config.specs.declared.plan.SinkPlan.{SinkPlan}
+use Rattle.agent_plan.specs.declared.plan.SinkKind.{SinkKind}
+use Rattle.agent_plan.specs.declared.plan.SinkKind.TheVariants as plan
+use Rattle.agent_plan.specs.declared.plan.SinkPlan.{SinkPlan}
 use Rattle.flume_host.specs.HandedOut.{CameBack, HandedOut, fresh_links}
 use Rattle.flume_host.specs.HostState.{Folders, HostState}
 use Rattle.flume_host.specs.Links.{LinkTold}
@@ -19,13 +18,10 @@ use Rattle.roll_sink.specs.Rolls.{Rolls}
 use Rattle.roll_sink.specs.States.{roll_answer, state_of}
 use Rattle.roll_sink.specs.declared.sink.RollSink.{RollSink}
 use Rattle.shared_channel.specs.Passes.{Known}
-use Rattle.shared_channel.specs.Ports.{own_calls}
 use Rattle.sink_runner.specs.declared.null.NullSink.{NullSink}
 use Rattle.sink_worker.specs.Rounds.{Told}
 use Rattle.sink_worker.specs.declared.worker.SinkWorker.{SinkWorker}
-use Rattle.channel_lock.specs.Views.{View}
 use Rattle.two_channels.specs.declared.shared.EitherShared.{EitherShared}
-use Rattle.agent_end.specs.declared.draining.ChannelDrain.{ChannelDrain}
 use Rattle.agent_sinks.specs.Kinds.{DeliversAs}
 use Rattle.agent_sinks.specs.declared.sink.AgentSink.{AgentSink}
 use Rattle.agent_sinks.specs.declared.sink.AgentSink.TheVariants.{Null, Roll, Avro, Boxed}
@@ -43,7 +39,6 @@ use Rattle.agent_outside.proofs.Dialing.{dials_ends}
 use Rattle.run_tracks.specs.Places.{Zips}
 use Rattle.agent_run.specs.DialedTold.{AreDialsBack, AskedAt, DialsTold, IsDialBack, RequestsTold}
 use Rattle.agent_run.specs.RolledTold.{WasTaken, calls_of}
-use Rattle.run_working.specs.Wholes.{AreBeside, IsSinkWhole}
 use Rattle.agent_run.proofs.Dialing.{IsSameSink, agent_keeps, kinds_stay, same_many}
 use Rattle.grouped_sinks.specs.Picks.{AreDealt}
 use Rattle.grouped_sinks.specs.Rows.{IsOrder, places_of}

@@ -1,10 +1,10 @@
 -- What the sinks of a run that were handed in were handed, by all calls of their workers.
-use Rattle.std.proofs.Common.{◌≡◌, ◌∙◌, ◌<◌, ℕ, zero, suc, List, [], ◌∷◌, Option, Some, None, Result, length, map, get_or, slice_get, refl, sym, subst, arith}
+use Rattle.std.proofs.Common.{◌≡◌, ◌<◌, ℕ, zero, suc, List, [], ◌∷◌, Option, Some, Result, length, map, get_or, refl, subst, arith}
 use Rattle.std.proofs.lemmas.Option.{get_or_from_slice_get, slice_get_within}
 use Rattle.event_core.specs.Content.{Content}
-use Rattle.flume_config.specs.declared.plan.SinkKind.{SinkKind}
-use Rattle.flume_config.specs.declared.plan.SinkKind.TheVariants as plan
-use Rattle.flume_config.specs.declared.plan.SinkPlan.{SinkPlan}
+use Rattle.agent_plan.specs.declared.plan.SinkKind.{SinkKind}
+use Rattle.agent_plan.specs.declared.plan.SinkKind.TheVariants as plan
+use Rattle.agent_plan.specs.declared.plan.SinkPlan.{SinkPlan}
 use Rattle.flume_host.specs.HostState.{Folders}
 use Rattle.plan_objects.specs.Asks.{asked}
 use Rattle.plug_in.specs.declared.sink.SinkRefused.{SinkRefused}
@@ -22,7 +22,7 @@ use Rattle.grouped_sinks.specs.Picks.{AreDealt}
 use Rattle.grouped_sinks.specs.Splits.{AllHanded, Handed, RunnersSplit, taken_at}
 use Rattle.grouped_sinks.specs.declared.row.SinkRow.{SinkRow}
 use Rattle.grouped_sinks.specs.declared.runner.Runner.{Runner}
-use Rattle.agent_run.specs.BoxedTold.{BoxedTold, DeliveriesTold}
+use Rattle.agent_run.specs.BoxedTold.{BoxedTold}
 use Rattle.agent_run.specs.RolledTold.{calls_of}
 use Rattle.agent_run.proofs.Parting.{part_at}
 use Rattle.agent_run.proofs.Rolling.{kind_at}

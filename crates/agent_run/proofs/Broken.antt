@@ -1,7 +1,7 @@
 -- The first of the channels that can't be opened any more.
 use Rattle.std.proofs.Common.{◌<◌, inl, inr, ℕ, zero, suc, List, ◌∷◌, Bool, Result, None, get_or, arith}
 use Rattle.channel_face.specs.declared.replies.OpenCause.{OpenCause}
-use Rattle.flume_config.specs.declared.plan.ChannelPlan.{ChannelPlan}
+use Rattle.agent_plan.specs.declared.plan.ChannelPlan.{ChannelPlan}
 use Rattle.agent_words.specs.declared.error.RunError.{RunError}
 use Rattle.agent_run.specs.Errors.{IsBroken, IsBrokenCause, IsBrokenError, IsNoneBroken}
 

@@ -8,20 +8,20 @@ use Rattle.channel_face.specs.Machine.{State}
 use Rattle.channel_face.specs.declared.replies.Counts.{Counts}
 use Rattle.channel_face.specs.declared.replies.OpenCause.{OpenCause}
 use Rattle.channel_face.specs.declared.replies.OpenCause.TheVariants as cause
-use Rattle.flume_config.specs.declared.plan.ChannelKind.{ChannelKind}
-use Rattle.flume_config.specs.declared.plan.ChannelKind.TheVariants.{File, Memory as InMemory}
-use Rattle.flume_config.specs.declared.plan.ChannelPlan.{ChannelPlan}
+use Rattle.agent_plan.specs.declared.plan.ChannelKind.{ChannelKind}
+use Rattle.agent_plan.specs.declared.plan.ChannelKind.TheVariants.{File, Memory as InMemory}
+use Rattle.agent_plan.specs.declared.plan.ChannelPlan.{ChannelPlan}
 use Rattle.shared_channel.specs.Passes.{Known}
 use Rattle.sink_worker.specs.declared.worker.SinkWorker.{SinkWorker}
 use Rattle.channel_lock.specs.Views.{View, saw}
 use Rattle.two_channels.specs.Shares.{IsDisk, MendsIn}
 use Rattle.two_channels.specs.declared.shared.EitherShared.{EitherShared}
-use Rattle.agent_channels.specs.Openings.{HostTold, IsOfKind}
-use Rattle.agent_channels.specs.Several.{AreOpened}
-use Rattle.agent_channels.specs.declared.opened.OpenedChannel.{OpenedChannel}
-use Rattle.agent_channels.specs.declared.wish.ChannelPlace.{ChannelPlace}
-use Rattle.agent_channels.specs.declared.wish.ChannelPlace.TheVariants.{Memory, Folder}
-use Rattle.agent_channels.specs.declared.wish.ChannelWish.{ChannelWish}
+use Rattle.channel_wishes.specs.Openings.{HostTold, IsOfKind}
+use Rattle.channel_wishes.specs.Opened.{AreOpened}
+use Rattle.channel_wishes.specs.declared.opened.OpenedChannel.{OpenedChannel}
+use Rattle.channel_wishes.specs.declared.wish.ChannelPlace.{ChannelPlace}
+use Rattle.channel_wishes.specs.declared.wish.ChannelPlace.TheVariants.{Memory, Folder}
+use Rattle.channel_wishes.specs.declared.wish.ChannelWish.{ChannelWish}
 use Rattle.agent_commands.specs.Piped.{cause_status}
 use Rattle.agent_end.specs.Statuses.{mend_status}
 use Rattle.agent_end.specs.declared.draining.ChannelDrain.{ChannelDrain}

@@ -5,8 +5,8 @@ use Rattle.shared_channel.specs.Passes.{Known}
 use Rattle.two_channels.specs.declared.shared.EitherClosed.{EitherClosed}
 use Rattle.two_channels.specs.declared.shared.EitherShared.{EitherShared}
 use Rattle.run_tracks.specs.Closes.{AreClosed, IsClosed}
-use Rattle.agent_channels.specs.Closings.{AreClosedOf}
-use Rattle.agent_channels.specs.Several.{LeftFits}
+use Rattle.channel_wishes.specs.Places.{AreClosedOf}
+use Rattle.channel_wishes.specs.Opened.{LeftFits}
 
 module _ {A B : Type 0} (disk : A → Opening → List Step → Type 0) (tells : A → Bool) (memory : B → Opening → List Step → Type 0) (tells' : B → Bool) (fits : LeftFits disk tells memory tells') where
   pub closed_of : (ss : List (EitherShared A B)) (hs : List Known) (es : List (EitherClosed A B)) → AreClosed (IsClosed disk tells memory tells') ss hs es → AreClosedOf ss es

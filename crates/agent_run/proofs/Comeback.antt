@@ -7,12 +7,13 @@ use Rattle.channel_face.specs.History.{Opening}
 use Rattle.channel_face.specs.declared.replies.Limits.{Limits}
 use Rattle.channel_face.specs.declared.replies.OpenCause.{OpenCause}
 use Rattle.agent_channels.specs.Closings.{DiskBack, DisksBack, faults_of}
-use Rattle.agent_channels.specs.Openings.{Begins, HostTold, Refuses, TakesDisk}
-use Rattle.agent_channels.specs.Several.{AreOpened, AreUnused, ComeBack, IsUnused, RefusesAt}
-use Rattle.agent_channels.specs.declared.opened.OpenedChannel.{OpenedChannel}
-use Rattle.agent_channels.specs.declared.wish.ChannelPlace.{ChannelPlace}
-use Rattle.agent_channels.specs.declared.wish.ChannelPlace.TheVariants.{Folder, Memory}
-use Rattle.agent_channels.specs.declared.wish.ChannelWish.{ChannelWish}
+use Rattle.channel_wishes.specs.Openings.{Begins, HostTold, Refuses, TakesDisk}
+use Rattle.channel_wishes.specs.Opened.{AreOpened}
+use Rattle.agent_channels.specs.Several.{AreUnused, ComeBack, IsUnused, RefusesAt}
+use Rattle.channel_wishes.specs.declared.opened.OpenedChannel.{OpenedChannel}
+use Rattle.channel_wishes.specs.declared.wish.ChannelPlace.{ChannelPlace}
+use Rattle.channel_wishes.specs.declared.wish.ChannelPlace.TheVariants.{Folder, Memory}
+use Rattle.channel_wishes.specs.declared.wish.ChannelWish.{ChannelWish}
 use Rattle.agent_run.specs.NotBegun.{IsSameDisk}
 use Rattle.agent_run.proofs.Began.{IsPlacedIn, fresh_base}
 

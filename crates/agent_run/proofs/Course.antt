@@ -5,17 +5,17 @@ use Rattle.std.specs.declared.alloc.Global.{Global}
 use Rattle.channel_face.specs.History.{Opening, Step}
 use Rattle.channel_face.specs.Machine.{State, is_some_of}
 use Rattle.channel_face.specs.declared.replies.Counts.{Counts}
-use Rattle.flume_config.specs.declared.plan.ChannelPlan.{ChannelPlan}
+use Rattle.agent_plan.specs.declared.plan.ChannelPlan.{ChannelPlan}
 use Rattle.flume_host.specs.Told.{Told}
 use Rattle.file_channel.specs.Stands.{FileState, StandsOver}
 use Rattle.shared_channel.specs.Passes.{Known}
 use Rattle.sink_worker.specs.declared.worker.SinkWorker.{SinkWorker}
 use Rattle.two_channels.specs.declared.shared.EitherShared.{EitherShared}
 use Rattle.agent_end.specs.declared.draining.ChannelDrain.{ChannelDrain}
-use Rattle.agent_channels.specs.Openings.{HostTold}
-use Rattle.agent_channels.specs.Several.{AreOpened}
-use Rattle.agent_channels.specs.declared.opened.OpenedChannel.{OpenedChannel}
-use Rattle.agent_channels.specs.declared.wish.ChannelWish.{ChannelWish}
+use Rattle.channel_wishes.specs.Openings.{HostTold}
+use Rattle.channel_wishes.specs.Opened.{AreOpened}
+use Rattle.channel_wishes.specs.declared.opened.OpenedChannel.{OpenedChannel}
+use Rattle.channel_wishes.specs.declared.wish.ChannelWish.{ChannelWish}
 use Rattle.run_tracks.specs.Closes.{IsClosed}
 use Rattle.run_tracks.specs.Homes.{EachTook}
 use Rattle.run_tracks.specs.Stops.{IsKept, IsMended}

@@ -1,14 +1,14 @@
 -- The sinks that come back of a run are of the kinds of their plans, and their dialers those of their plans.
-use Rattle.std.proofs.Common.{◌≡◌, ◌∙◌, ◌<◌, ℕ, suc, List, [], ◌∷◌, length, map, slice_get, take, All, Bool, Option, Result, refl, sym, ap, subst, arith, string_bytes}
+use Rattle.std.proofs.Common.{◌≡◌, ◌∙◌, ◌<◌, ℕ, suc, List, [], ◌∷◌, length, map, take, All, Bool, Option, Result, refl, sym, ap, subst, arith, string_bytes}
 use Rattle.std.proofs.lemmas.List.{take_all}
 use Rattle.std.proofs.lemmas.List.Elements.{All-head}
 use Rattle.event_core.specs.Content.{Content}
 use Rattle.flume_host.specs.HandedOut.{HandedOut}
 use Rattle.flume_host.specs.HostState.{Folders, HostState}
 use Rattle.flume_host.specs.Listens.{Endpoint, IsFrom}
-use Rattle.flume_config.specs.declared.plan.SinkKind.{SinkKind}
-use Rattle.flume_config.specs.declared.plan.SinkKind.TheVariants as plan
-use Rattle.flume_config.specs.declared.plan.SinkPlan.{SinkPlan}
+use Rattle.agent_plan.specs.declared.plan.SinkKind.{SinkKind}
+use Rattle.agent_plan.specs.declared.plan.SinkKind.TheVariants as plan
+use Rattle.agent_plan.specs.declared.plan.SinkPlan.{SinkPlan}
 use Rattle.plug_in.specs.declared.sink.SinkRefused.{SinkRefused}
 use Rattle.roll_sink.specs.declared.sink.RollSink.{RollSink}
 use Rattle.shared_channel.specs.Passes.{Known}
@@ -16,7 +16,6 @@ use Rattle.sink_runner.specs.declared.null.NullSink.{NullSink}
 use Rattle.sink_worker.specs.Rounds.{Told}
 use Rattle.sink_worker.specs.declared.worker.SinkWorker.{SinkWorker}
 use Rattle.two_channels.specs.declared.shared.EitherShared.{EitherShared}
-use Rattle.agent_end.specs.declared.draining.ChannelDrain.{ChannelDrain}
 use Rattle.agent_sinks.specs.Kinds.{DeliversAs}
 use Rattle.agent_sinks.specs.declared.sink.AgentSink.{AgentSink}
 use Rattle.agent_sinks.specs.declared.sink.AgentSink.TheVariants.{Null, Roll, Avro, Boxed}
@@ -25,8 +24,8 @@ use Rattle.agent_outside.specs.Dials.{AreDialed, IsDialed, dials_of}
 use Rattle.agent_outside.specs.Ends.{AreOut}
 use Rattle.agent_outside.specs.Sinks.{AreOfPlans, IsOfKind}
 use Rattle.agent_outside.proofs.Dialing.{are_dialed, dials_ends}
-use Rattle.agent_channels.specs.Openings.{HostTold}
-use Rattle.flume_config.specs.declared.plan.Plan.{Plan}
+use Rattle.channel_wishes.specs.Openings.{HostTold}
+use Rattle.agent_plan.specs.declared.plan.Plan.{Plan}
 use Rattle.flume_host.specs.Rolled.{Rolled}
 use Rattle.channel_face.specs.History.{Opening as Begun, Step}
 use Rattle.channel_face.specs.Machine.{State}
@@ -54,7 +53,6 @@ use Rattle.run_opening.specs.Opening.{IsManned}
 use Rattle.run_opening.specs.Outside.{IsOutside}
 use Rattle.run_working.specs.Runs.{Runs}
 use Rattle.run_settling.specs.Settling.{AreSettled}
-use Rattle.run_working.specs.Wholes.{AreBeside, IsSinkWhole}
 use Rattle.run_settling.specs.declared.at_home.AtHome.{AtHome}
 use Rattle.agent_run.specs.declared.joined.Joined.{Joined}
 use Rattle.run_opening.specs.declared.opening.Manned.{Manned}

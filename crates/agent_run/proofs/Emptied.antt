@@ -11,7 +11,7 @@ use Rattle.channel_face.specs.History.{IsRun, Opening, Step, opening, state_afte
 use Rattle.channel_face.specs.Machine.{State, after}
 use Rattle.channel_face.proofs.Adding.{state-append}
 use Rattle.file_channel.specs.Stands.{FileState}
-use Rattle.flume_config.specs.declared.plan.ChannelPlan.{ChannelPlan}
+use Rattle.agent_plan.specs.declared.plan.ChannelPlan.{ChannelPlan}
 use Rattle.grouped_sinks.specs.declared.row.SinkRow.{SinkRow}
 use Rattle.flume_host.specs.Told.{Told as DiskTold}
 use Rattle.shared_channel.specs.Passes.{Known}

@@ -18,7 +18,7 @@ use Rattle.channel_face.specs.declared.replies.Settled.TheVariants.{Yes, No, InD
 use Rattle.channel_face.specs.declared.replies.StageCause.{StageCause}
 use Rattle.channel_face.specs.declared.replies.Ticket.{Ticket}
 use Rattle.plug_in.specs.declared.sink.SinkRefused.{SinkRefused}
-use Rattle.sink_runner.specs.Turns.{AreTaken, AreTakenUpTo, EndsDelivery, EndsTaking, EndsTurn, IsTurn}
+use Rattle.sink_runner.specs.Turns.{AreTaken, EndsDelivery, EndsTaking, EndsTurn, IsTurn}
 use Rattle.sink_runner.specs.Turns as Turns
 use Rattle.sink_runner.specs.declared.turn.Turn.{Turn}
 use Rattle.agent_run.proofs.Staged.{EachEnds, EndsWith, ticket_of}

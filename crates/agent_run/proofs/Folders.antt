@@ -6,9 +6,9 @@ use Rattle.channel_face.specs.History.{Opening, Shows, Step}
 use Rattle.channel_face.specs.Machine.{State}
 use Rattle.channel_face.specs.declared.replies.Limits.{Limits}
 use Rattle.channel_laws.proofs.Until.{counted_calls_leave}
-use Rattle.flume_config.specs.declared.plan.ChannelKind.{ChannelKind}
-use Rattle.flume_config.specs.declared.plan.ChannelKind.TheVariants.{File, Memory as InMemory}
-use Rattle.flume_config.specs.declared.plan.ChannelPlan.{ChannelPlan}
+use Rattle.agent_plan.specs.declared.plan.ChannelKind.{ChannelKind}
+use Rattle.agent_plan.specs.declared.plan.ChannelKind.TheVariants.{File, Memory as InMemory}
+use Rattle.agent_plan.specs.declared.plan.ChannelPlan.{ChannelPlan}
 use Rattle.flume_host.specs.Told.{Told}
 use Rattle.file_channel.specs.Stands.{FileState, StandsOver}
 use Rattle.channel_writing.specs.Touches.{Rests}
@@ -21,10 +21,10 @@ use Rattle.two_channels.specs.declared.shared.EitherClosed.TheVariants as closed
 use Rattle.two_channels.specs.declared.shared.EitherShared.{EitherShared}
 use Rattle.agent_end.specs.declared.draining.ChannelDrain.{ChannelDrain}
 use Rattle.agent_channels.specs.Closings.{DisksBack, backs_of}
-use Rattle.agent_channels.specs.Openings.{BeginsOnDisk, HostTold}
-use Rattle.agent_channels.specs.declared.wish.ChannelPlace.{ChannelPlace}
-use Rattle.agent_channels.specs.declared.wish.ChannelPlace.TheVariants.{Memory, Folder}
-use Rattle.agent_channels.specs.declared.wish.ChannelWish.{ChannelWish}
+use Rattle.channel_wishes.specs.Openings.{BeginsOnDisk, HostTold}
+use Rattle.channel_wishes.specs.declared.wish.ChannelPlace.{ChannelPlace}
+use Rattle.channel_wishes.specs.declared.wish.ChannelPlace.TheVariants.{Memory, Folder}
+use Rattle.channel_wishes.specs.declared.wish.ChannelWish.{ChannelWish}
 use Rattle.channel_lock.specs.Turns.{HasAll}
 use Rattle.run_tracks.specs.Closes.{IsClosed}
 use Rattle.run_tracks.specs.Stops.{IsKept, KeptIf}

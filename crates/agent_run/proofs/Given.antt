@@ -1,7 +1,7 @@
 -- What the host took back after a run.
 use Rattle.std.proofs.Common.{◌≡◌, ◌∙◌, ℕ, List, [], ◌∷◌, Option, map, refl, sym, ap, subst}
 use Rattle.crew.specs.declared.draining.DrainWorker.{DrainWorker}
-use Rattle.flume_config.specs.declared.plan.SourcePlan.{SourcePlan}
+use Rattle.agent_plan.specs.declared.plan.SourcePlan.{SourcePlan}
 use Rattle.flume_host.specs.HandedOut.{CameBack}
 use Rattle.flume_host.specs.HostState.{HostState}
 use Rattle.flume_host.specs.Listens.{Endpoint, IsFrom}

@@ -17,9 +17,9 @@ use Rattle.two_channels.specs.declared.shared.EitherShared.{EitherShared}
 use Rattle.two_channels.specs.declared.shared.EitherShared.TheVariants as share
 use Rattle.run_tracks.specs.Closes.{AreClosed, IsClosed}
 use Rattle.agent_channels.specs.Closings.{DiskBack, back_of, backs_of, told_of}
-use Rattle.agent_channels.specs.declared.wish.ChannelPlace.{ChannelPlace}
-use Rattle.agent_channels.specs.declared.wish.ChannelPlace.TheVariants.{Memory, Folder}
-use Rattle.agent_channels.specs.declared.wish.ChannelWish.{ChannelWish}
+use Rattle.channel_wishes.specs.declared.wish.ChannelPlace.{ChannelPlace}
+use Rattle.channel_wishes.specs.declared.wish.ChannelPlace.TheVariants.{Memory, Folder}
+use Rattle.channel_wishes.specs.declared.wish.ChannelWish.{ChannelWish}
 use Rattle.agent_run.proofs.Began.{IsPlacedIn}
 
 module _ {D : Type 0} (told : D → Option Told) (faults : D → ℕ) where

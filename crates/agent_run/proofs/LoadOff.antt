@@ -2,7 +2,7 @@
 use Rattle.std.proofs.Common.{◌≡◌, ℕ, List, [], None, Err, inl, inr, refl, ap, arith}
 use Rattle.flume_host.specs.HostState.{Folders, HostState}
 use Rattle.channel_face.specs.declared.replies.OpenCause.TheVariants as causes
-use Rattle.agent_channels.specs.Openings.{HostTold}
+use Rattle.channel_wishes.specs.Openings.{HostTold}
 use Rattle.agent_commands.specs.declared.load.LoadCause.TheVariants.{Unopened}
 use Rattle.agent_commands.proofs.Loaded.{not_handed}
 use Rattle.agent_run.specs.LoadRan.{LoadRan}

@@ -6,11 +6,11 @@ use Rattle.std.proofs.lemmas.Slice.Eq.{bytes_eq-Decides}
 use Rattle.prop_text.specs.Pairs.{Pair}
 use Rattle.prop_text.specs.Winners.{lookup}
 use Rattle.channel_face.specs.Machine.{or_else}
-use Rattle.flume_config.specs.declared.plan.Plan.{Plan}
-use Rattle.flume_config.specs.declared.plan.SourceKind.{SourceKind}
-use Rattle.flume_config.specs.declared.plan.SourceKind.TheVariants.{Avro, Netcat, Stdin}
-use Rattle.flume_config.specs.declared.plan.SourcePlan.{SourcePlan}
-use Rattle.flume_config.specs.Values.{IsSourceKind, Match, SourceNamed, text_at, text_of}
+use Rattle.agent_plan.specs.declared.plan.Plan.{Plan}
+use Rattle.agent_plan.specs.declared.plan.SourceKind.{SourceKind}
+use Rattle.agent_plan.specs.declared.plan.SourceKind.TheVariants.{Avro, Netcat, Stdin}
+use Rattle.agent_plan.specs.declared.plan.SourcePlan.{SourcePlan}
+use Rattle.agent_plan.specs.Values.{IsSourceKind, Match, SourceNamed, text_at, text_of}
 use Rattle.plan_judging.specs.Agents as agents
 use Rattle.plan_judging.specs.Agents.{source_claims, source_named, step_claims}
 use Rattle.plan_judging.specs.Candidates.{each, nothing, ◌⊕◌}

@@ -2,7 +2,7 @@
 use Rattle.std.proofs.Common.{◌≡◌, ℕ, List, [], None, inr, sym, ap, subst, arith}
 use Rattle.flume_host.specs.HostState.{Folders, HostState}
 use Rattle.flume_host.specs.Told.{Tells}
-use Rattle.agent_channels.specs.Openings.{HostTold}
+use Rattle.channel_wishes.specs.Openings.{HostTold}
 use Rattle.agent_commands.specs.Stored.{IsUnopened}
 use Rattle.agent_commands.proofs.Outcomes.{early, untouched}
 use Rattle.agent_run.specs.PipeRan.{PipeRan}

@@ -10,7 +10,7 @@ use Rattle.channel_face.specs.declared.replies.OpenCause.{OpenCause}
 use Rattle.channel_face.specs.declared.replies.OpenCause.TheVariants.{DiskFault}
 use Rattle.crew.specs.Drains.{DrainRan}
 use Rattle.crew.specs.declared.draining.DrainWorker.{DrainWorker}
-use Rattle.flume_config.specs.declared.plan.Plan.{Plan}
+use Rattle.agent_plan.specs.declared.plan.Plan.{Plan}
 use Rattle.flume_host.specs.Causes.{Rose}
 use Rattle.flume_host.specs.HostState.{HostState}
 use Rattle.grouped_sinks.specs.declared.row.SinkRow.{SinkRow}
@@ -24,9 +24,9 @@ use Rattle.source_worker.specs.declared.ends.SessionRules.TheVariants as rule
 use Rattle.line_worker.specs.declared.worker.LineWorker.{LineWorker}
 use Rattle.two_channels.specs.declared.port.EitherPort.{EitherPort}
 use Rattle.run_tracks.specs.Places.{Zips}
-use Rattle.agent_channels.specs.Openings.{HostTold}
-use Rattle.agent_channels.specs.declared.opened.OpenedChannel.{OpenedChannel}
-use Rattle.agent_channels.specs.declared.wish.ChannelWish.{ChannelWish}
+use Rattle.channel_wishes.specs.Openings.{HostTold}
+use Rattle.channel_wishes.specs.declared.opened.OpenedChannel.{OpenedChannel}
+use Rattle.channel_wishes.specs.declared.wish.ChannelWish.{ChannelWish}
 use Rattle.agent_commands.specs.Piped.{cause_status}
 use Rattle.agent_end.specs.Statuses.{drain_status, mend_status, report_status, run_status}
 use Rattle.agent_end.specs.declared.ends.InputEnd.{InputEnd}

@@ -7,20 +7,21 @@ use Rattle.flume_host.specs.declared.names.NameRefused.{NameRefused}
 use Rattle.flume_host.specs.declared.names.NameRefused.TheVariants.{Failed, NoMemory}
 use Rattle.channel_face.specs.declared.replies.OpenCause.{OpenCause}
 use Rattle.channel_face.specs.declared.replies.OpenCause.TheVariants as causes
-use Rattle.flume_config.specs.declared.plan.ChannelKind.{ChannelKind}
-use Rattle.flume_config.specs.declared.plan.ChannelKind.TheVariants.{File, Memory}
-use Rattle.flume_config.specs.declared.plan.Plan.{Plan}
+use Rattle.agent_plan.specs.declared.plan.ChannelKind.{ChannelKind}
+use Rattle.agent_plan.specs.declared.plan.ChannelKind.TheVariants.{File, Memory}
+use Rattle.agent_plan.specs.declared.plan.Plan.{Plan}
 use Rattle.agent_words.specs.Statuses.{status_of}
 use Rattle.agent_words.specs.declared.error.RunError.{RunError}
 use Rattle.agent_words.specs.declared.error.RunError.TheVariants as errors
 use Rattle.agent_commands.specs.Piped.{cause_status}
 use Rattle.agent_commands.specs.Stored.{IsOfFolder}
-use Rattle.agent_channels.specs.Openings.{GivesBack, HandsNone, HostTold, Refuses}
-use Rattle.agent_channels.specs.Several.{AreOpened, RefusesAt}
-use Rattle.agent_channels.specs.declared.opened.OpenedChannel.{OpenedChannel}
-use Rattle.agent_channels.specs.declared.wish.ChannelPlace.{ChannelPlace}
-use Rattle.agent_channels.specs.declared.wish.ChannelPlace.TheVariants as place
-use Rattle.agent_channels.specs.declared.wish.ChannelWish.{ChannelWish}
+use Rattle.channel_wishes.specs.Openings.{GivesBack, HandsNone, HostTold, Refuses}
+use Rattle.channel_wishes.specs.Opened.{AreOpened}
+use Rattle.agent_channels.specs.Several.{RefusesAt}
+use Rattle.channel_wishes.specs.declared.opened.OpenedChannel.{OpenedChannel}
+use Rattle.channel_wishes.specs.declared.wish.ChannelPlace.{ChannelPlace}
+use Rattle.channel_wishes.specs.declared.wish.ChannelPlace.TheVariants as place
+use Rattle.channel_wishes.specs.declared.wish.ChannelWish.{ChannelWish}
 use Rattle.agent_outside.specs.Ends.{places}
 use Rattle.agent_run.specs.Errors.{IsCauseError}
 use Rattle.agent_commands.specs.Checked.{Lacking}

@@ -6,7 +6,7 @@ use Rattle.std.specs.declared.alloc.Global.{Global}
 use Rattle.channel_face.specs.History.{Opening, Step}
 use Rattle.channel_face.specs.Machine.{State}
 use Rattle.channel_face.specs.declared.replies.Counts.{Counts}
-use Rattle.flume_config.specs.declared.plan.ChannelPlan.{ChannelPlan}
+use Rattle.agent_plan.specs.declared.plan.ChannelPlan.{ChannelPlan}
 use Rattle.flume_host.specs.HostState.{HostState}
 use Rattle.flume_host.specs.Told.{Told}
 use Rattle.agent_end.specs.declared.draining.ChannelDrain.{ChannelDrain}

@@ -1,6 +1,6 @@
 -- What the host shows of itself once a run gave all back and reported.
 use Rattle.std.proofs.Common.{◌≡◌, ◌∙◌, ◌⊎◌, inl, inr, ℕ, List, Bool, true, false, Option, Result, Ok, Err, refl, ap, arith}
-use Rattle.flume_config.specs.declared.plan.SinkPlan.{SinkPlan}
+use Rattle.agent_plan.specs.declared.plan.SinkPlan.{SinkPlan}
 use Rattle.grouped_sinks.specs.declared.row.SinkRow.{SinkRow}
 use Rattle.grouped_sinks.specs.declared.runner.Runner.{Runner}
 use Rattle.flume_host.specs.Causes.{Rose}
@@ -9,8 +9,8 @@ use Rattle.flume_host.specs.Rolled.{Rolled}
 use Rattle.flume_host.specs.Told.{Told}
 use Rattle.file_channel.specs.Stands.{FileState}
 use Rattle.memory_channel.specs.declared.channel.MemoryChannel.{MemoryChannel}
-use Rattle.agent_channels.specs.Openings.{HostTold}
-use Rattle.agent_channels.specs.declared.wish.ChannelWish.{ChannelWish}
+use Rattle.channel_wishes.specs.Openings.{HostTold}
+use Rattle.channel_wishes.specs.declared.wish.ChannelWish.{ChannelWish}
 use Rattle.agent_end.specs.declared.ends.ReportRefused.{ReportRefused}
 use Rattle.agent_end.specs.declared.ends.ReportRefused.TheVariants as report
 use Rattle.agent_sinks.specs.declared.sink.AgentSink.{AgentSink}

@@ -1,15 +1,12 @@
 -- What the sinks of a run wrote into their folders, by all calls of their workers.
-use Rattle.std.proofs.Common.{◌≡◌, ◌∙◌, ◌<◌, ℕ, zero, suc, List, [], ◌∷◌, ◌++◌, append-nil, append_assoc, Bool, true, false, cond, Option, Some, None, Result, Ok, Err, length, map, get_or, slice_get, refl, sym, ap, subst, arith, bytes_eq, string_bytes}
-use Rattle.std.proofs.lemmas.List.{get_or-map, length-map}
+use Rattle.std.proofs.Common.{◌≡◌, ◌∙◌, ◌<◌, ℕ, zero, suc, List, [], ◌∷◌, ◌++◌, Bool, true, false, cond, Option, Some, None, Result, Ok, Err, length, map, get_or, refl, sym, ap, subst, arith, bytes_eq, string_bytes}
 use Rattle.std.proofs.lemmas.Slice.Eq.{bytes_eq-Decides}
 use Rattle.std.specs.List.{AllByRecursion}
 use Rattle.event_core.specs.Content.{Content}
 use Rattle.channel_face.specs.Faces.{Own}
-use Rattle.channel_face.specs.History.{opening}
-use Rattle.channel_face.specs.declared.replies.OpenCause.{OpenCause}
-use Rattle.flume_config.specs.declared.plan.SinkKind.{SinkKind}
-use Rattle.flume_config.specs.declared.plan.SinkKind.TheVariants as plan
-use Rattle.flume_config.specs.declared.plan.SinkPlan.{SinkPlan}
+use Rattle.agent_plan.specs.declared.plan.SinkKind.{SinkKind}
+use Rattle.agent_plan.specs.declared.plan.SinkKind.TheVariants as plan
+use Rattle.agent_plan.specs.declared.plan.SinkPlan.{SinkPlan}
 use Rattle.flume_host.specs.HostState.{Folders}
 use Rattle.flume_host.specs.Rolled.{Rolled, opened}
 use Rattle.flume_host.specs.Told.{Tells}
@@ -20,29 +17,17 @@ use Rattle.roll_sink.specs.Runs.{AllRoll, Delivery, Filled, Fills, RunsFill, del
 use Rattle.roll_sink.specs.States.{roll_answer, state_of}
 use Rattle.roll_sink.specs.declared.sink.RollSink.{RollSink}
 use Rattle.shared_channel.specs.Passes.{Known}
-use Rattle.shared_channel.specs.Ports.{own_calls}
 use Rattle.sink_runner.specs.declared.null.NullSink.{NullSink}
-use Rattle.sink_runner.specs.declared.turn.Turn.{Turn}
-use Rattle.sink_runner.specs.declared.turn.Turn.TheVariants.{Delivered}
-use Rattle.sink_worker.specs.Answers.{needs_mend}
-use Rattle.sink_worker.specs.Rounds.{MendsIf, Rounds, Taking, Told}
+use Rattle.sink_worker.specs.Rounds.{Told}
 use Rattle.sink_worker.specs.declared.worker.SinkWorker.{SinkWorker}
 use Rattle.two_channels.specs.declared.shared.EitherShared.{EitherShared}
-use Rattle.two_channels.specs.Shares.{IsDisk}
-use Rattle.agent_end.specs.Drains.{Deliveries, EndsDrain, RunsOnEvents}
-use Rattle.agent_end.specs.declared.draining.ChannelDrain.{ChannelDrain}
-use Rattle.agent_end.specs.declared.draining.ChannelDrain.TheVariants.{Emptied, Stopped}
 use Rattle.agent_sinks.specs.Kinds.{DeliversAs}
 use Rattle.agent_sinks.specs.declared.sink.AgentSink.{AgentSink}
 use Rattle.agent_sinks.specs.declared.sink.AgentSink.TheVariants.{Null, Roll, Avro, Boxed}
 use Rattle.agent_outside.specs.Backs.{RollBack, told_of}
 use Rattle.agent_outside.specs.Sinks.{AreNew, AreOfPlans, IsNew, IsOfKind, SinksOpened, back_of, backs_of, folder_of}
-use Rattle.run_tracks.specs.Drained.{Looked}
-use Rattle.run_tracks.specs.Tracks.{Calls, Mended, Stood, Track, Turned, ended, track_of}
 use Rattle.agent_run.specs.RolledTold.{FilesTold, RolledTold, WasTaken, calls_of}
-use Rattle.run_working.specs.Wholes.{AreBeside, IsSinkWhole, WorkedAndDrained}
-use Rattle.agent_run.proofs.Course.{there}
-use Rattle.agent_run.proofs.Ended.{ends_then, mend_ends, turn_ends}
+use Rattle.run_working.specs.Wholes.{AreBeside}
 use Rattle.grouped_sinks.specs.Splits.{AllHanded, Handed, RunnersSplit, ok_batches, ok_of, taken_at}
 use Rattle.agent_run.proofs.Handing.{WasTakenBehind}
 use Rattle.agent_run.proofs.Sharing.{Part, RowsShared}
@@ -51,8 +36,6 @@ use Rattle.grouped_sinks.specs.Picks.{AreDealt}
 use Rattle.grouped_sinks.specs.declared.row.SinkRow.{SinkRow}
 use Rattle.grouped_sinks.specs.declared.runner.Runner.{Runner}
 use Rattle.std.proofs.lemmas.Option.{get_or_from_slice_get, slice_get_within}
-use Rattle.agent_run.proofs.Staged.{EachEnds}
-use Rattle.agent_run.proofs.Tidying.{Tidy}
 
 -- ---- rolled files
 

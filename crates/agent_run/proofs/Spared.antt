@@ -6,14 +6,14 @@ use Rattle.flume_host.specs.Told.{Tells, Told, WhereTold}
 use Rattle.channel_face.specs.declared.replies.OpenCause.{OpenCause}
 use Rattle.channel_face.specs.declared.replies.OpenCause.TheVariants as causes
 use Rattle.channel_writing.specs.Folders.{AreSame, OpensFrom, Refuses as FolderRefuses, StaysAs}
-use Rattle.flume_config.specs.declared.plan.ChannelPlan.{ChannelPlan}
-use Rattle.flume_config.specs.declared.plan.Plan.{Plan}
-use Rattle.flume_config.specs.declared.plan.SinkPlan.{SinkPlan}
-use Rattle.agent_channels.specs.Openings.{HostTold, Refuses}
+use Rattle.agent_plan.specs.declared.plan.ChannelPlan.{ChannelPlan}
+use Rattle.agent_plan.specs.declared.plan.Plan.{Plan}
+use Rattle.agent_plan.specs.declared.plan.SinkPlan.{SinkPlan}
+use Rattle.channel_wishes.specs.Openings.{HostTold, Refuses}
 use Rattle.agent_channels.specs.Several.{RefusesAt}
-use Rattle.agent_channels.specs.declared.wish.ChannelPlace.{ChannelPlace}
-use Rattle.agent_channels.specs.declared.wish.ChannelPlace.TheVariants as place
-use Rattle.agent_channels.specs.declared.wish.ChannelWish.{ChannelWish}
+use Rattle.channel_wishes.specs.declared.wish.ChannelPlace.{ChannelPlace}
+use Rattle.channel_wishes.specs.declared.wish.ChannelPlace.TheVariants as place
+use Rattle.channel_wishes.specs.declared.wish.ChannelWish.{ChannelWish}
 use Rattle.agent_commands.specs.Stored.{IsOfFolder}
 use Rattle.agent_outside.specs.Backs.{is_among}
 use Rattle.agent_outside.specs.Sinks.{folder_of, folders_of}

@@ -2,9 +2,9 @@
 use Rattle.std.specs.Prelude.{◌≡◌, ◌<◌, ◌++◌, ℕ, suc, List, [], ◌∷◌, length, reverse, slice_get, slice_index_or, Some, string_bytes}
 use Rattle.std.specs.List.{AllByRecursion}
 use Rattle.channel_face.specs.Faces.{Own}
-use Rattle.flume_config.specs.declared.plan.SinkKind.{SinkKind}
-use Rattle.flume_config.specs.declared.plan.SinkKind.TheVariants as plan
-use Rattle.flume_config.specs.declared.plan.SinkPlan.{SinkPlan}
+use Rattle.agent_plan.specs.declared.plan.SinkKind.{SinkKind}
+use Rattle.agent_plan.specs.declared.plan.SinkKind.TheVariants as plan
+use Rattle.agent_plan.specs.declared.plan.SinkPlan.{SinkPlan}
 use Rattle.flume_host.specs.HandedOut.{CameBack, HandedOut}
 use Rattle.flume_host.specs.HostState.{HostState}
 use Rattle.flume_host.specs.Listens.{LinksTold}

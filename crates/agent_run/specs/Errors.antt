@@ -1,9 +1,9 @@
 -- What is said of a run that didn't end well.
 use Rattle.std.specs.Prelude.{◌≡◌, ◌⊎◌, ◌<◌, ℕ, Bool, List, length, slice_index_or, Option, Some, None, Result, Err}
 use Rattle.channel_face.specs.declared.replies.OpenCause.{OpenCause}
-use Rattle.flume_config.specs.declared.plan.ChannelKind.{ChannelKind}
-use Rattle.flume_config.specs.declared.plan.ChannelKind.TheVariants.{File, Memory}
-use Rattle.flume_config.specs.declared.plan.ChannelPlan.{ChannelPlan}
+use Rattle.agent_plan.specs.declared.plan.ChannelKind.{ChannelKind}
+use Rattle.agent_plan.specs.declared.plan.ChannelKind.TheVariants.{File, Memory}
+use Rattle.agent_plan.specs.declared.plan.ChannelPlan.{ChannelPlan}
 use Rattle.agent_end.specs.Statuses.{mend_status}
 use Rattle.agent_words.specs.Statuses.{status_of}
 use Rattle.agent_words.specs.declared.error.RunError.{RunError}

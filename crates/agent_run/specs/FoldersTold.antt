@@ -1,8 +1,8 @@
 -- What the folders of a run's channels hold after it.
 use Rattle.std.specs.Prelude.{◌≡◌, ◌<◌, ◌++◌, ℕ, List, [], ◌∷◌, Option, Some, None, Bool, true, false, Result, length, slice_index_or, string_bytes}
-use Rattle.flume_config.specs.declared.plan.ChannelKind.{ChannelKind}
-use Rattle.flume_config.specs.declared.plan.ChannelKind.TheVariants.{File, Memory}
-use Rattle.flume_config.specs.declared.plan.ChannelPlan.{ChannelPlan}
+use Rattle.agent_plan.specs.declared.plan.ChannelKind.{ChannelKind}
+use Rattle.agent_plan.specs.declared.plan.ChannelKind.TheVariants.{File, Memory}
+use Rattle.agent_plan.specs.declared.plan.ChannelPlan.{ChannelPlan}
 use Rattle.flume_host.specs.HostState.{Folders}
 use Rattle.flume_host.specs.Told.{Told}
 use Rattle.channel_face.specs.History.{IsRun, Step, opening}
@@ -15,7 +15,7 @@ use Rattle.channel_laws.specs.Images.{LeavesAtEach}
 use Rattle.channel_writing.specs.Touches.{Rests}
 use Rattle.shared_channel.specs.Calls.{state_seen}
 use Rattle.shared_channel.specs.Passes.{Known}
-use Rattle.agent_channels.specs.Openings.{BeginsOnDisk}
+use Rattle.channel_wishes.specs.Openings.{BeginsOnDisk}
 use Rattle.run_opening.specs.Keepers.{closes}
 use Rattle.agent_run.specs.RolledTold.{CountsMore}
 

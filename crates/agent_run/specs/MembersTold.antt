@@ -1,13 +1,13 @@
 -- Which sinks of a run took what the workers of their rows committed.
-use Rattle.std.specs.Prelude.{◌≡◌, ◌<◌, ℕ, List, [], ◌∷◌, Option, Result, length, slice_index_or}
+use Rattle.std.specs.Prelude.{◌≡◌, ◌<◌, ℕ, List, [], Option, Result, length, slice_index_or}
 use Rattle.std.specs.List.{AllByRecursion}
 use Rattle.event_core.specs.Content.{Content}
-use Rattle.flume_config.specs.declared.plan.SinkPlan.{SinkPlan}
+use Rattle.agent_plan.specs.declared.plan.SinkPlan.{SinkPlan}
 use Rattle.grouped_sinks.specs.Splits.{batches_of}
 use Rattle.grouped_sinks.specs.declared.row.SinkRow.{SinkRow}
 use Rattle.shared_channel.specs.Passes.{Known}
 use Rattle.sink_worker.specs.declared.worker.SinkWorker.{SinkWorker}
-use Rattle.agent_channels.specs.Openings.{HostTold}
+use Rattle.channel_wishes.specs.Openings.{HostTold}
 use Rattle.plug_in.specs.declared.sink.SinkRefused.{SinkRefused}
 use Rattle.agent_run.specs.BoxedTold.{BoxedTold}
 use Rattle.agent_run.specs.DialedTold.{DialedTold}

@@ -7,14 +7,14 @@ use Rattle.flume_host.specs.Told.{Tells, WhereTold}
 use Rattle.flume_host.specs.declared.names.NameRefused.{NameRefused}
 use Rattle.channel_face.specs.declared.replies.OpenCause.{OpenCause}
 use Rattle.channel_writing.specs.Folders.{AreSame, OpensFrom, Refuses}
-use Rattle.flume_config.specs.declared.plan.ChannelPlan.{ChannelPlan}
-use Rattle.flume_config.specs.declared.plan.Plan.{Plan}
+use Rattle.agent_plan.specs.declared.plan.ChannelPlan.{ChannelPlan}
+use Rattle.agent_plan.specs.declared.plan.Plan.{Plan}
 use Rattle.agent_words.specs.Statuses.{status_of}
 use Rattle.agent_words.specs.declared.error.RunError.{RunError}
-use Rattle.agent_channels.specs.Openings.{HostTold}
+use Rattle.channel_wishes.specs.Openings.{HostTold}
 use Rattle.agent_channels.specs.Several.{AreUnused, ComeBack, RefusesAt}
-use Rattle.agent_channels.specs.declared.opened.OpenedChannel.{OpenedChannel}
-use Rattle.agent_channels.specs.declared.wish.ChannelWish.{ChannelWish}
+use Rattle.channel_wishes.specs.declared.opened.OpenedChannel.{OpenedChannel}
+use Rattle.channel_wishes.specs.declared.wish.ChannelWish.{ChannelWish}
 use Rattle.agent_outside.specs.Backs.{is_among}
 use Rattle.agent_outside.specs.Ends.{places}
 use Rattle.agent_outside.specs.Sinks.{folders_of}

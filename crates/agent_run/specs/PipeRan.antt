@@ -1,7 +1,7 @@
 -- What a run of `pipe` did, and the channel that comes back.
 use Rattle.std.specs.Prelude.{◌≡◌, ℕ, List, [], ◌∷◌, Option, Some, None, string_bytes}
 use Rattle.shared_channel.specs.Passes.{Known}
-use Rattle.agent_channels.specs.Openings.{HostTold}
+use Rattle.channel_wishes.specs.Openings.{HostTold}
 use Rattle.agent_commands.specs.Piped.{Piped}
 use Rattle.run_opening.specs.declared.channel_end.ChannelEnd.{ChannelEnd}
 

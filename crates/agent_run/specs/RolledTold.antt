@@ -5,7 +5,7 @@ use Rattle.event_core.specs.Content.{Content}
 use Rattle.channel_face.specs.Faces.{Own}
 use Rattle.channel_face.specs.History.{opening}
 use Rattle.channel_face.specs.Machine.{Call, BeginTake, StageTake}
-use Rattle.flume_config.specs.declared.plan.SinkPlan.{SinkPlan}
+use Rattle.agent_plan.specs.declared.plan.SinkPlan.{SinkPlan}
 use Rattle.flume_host.specs.HostState.{Folders}
 use Rattle.flume_host.specs.Rolled.{Rolled, opened}
 use Rattle.flume_host.specs.Told.{Tells}

@@ -5,8 +5,8 @@ use Rattle.flume_host.specs.HostState.{Folders}
 use Rattle.flume_host.specs.Listens.{Endpoint}
 use Rattle.flume_host.specs.Rolled.{Rolled}
 use Rattle.flume_host.specs.Told.{Told}
-use Rattle.flume_config.specs.declared.plan.SinkPlan.{SinkPlan}
-use Rattle.flume_config.specs.declared.plan.SourcePlan.{SourcePlan}
+use Rattle.agent_plan.specs.declared.plan.SinkPlan.{SinkPlan}
+use Rattle.agent_plan.specs.declared.plan.SourcePlan.{SourcePlan}
 use Rattle.agent_words.specs.Report.{report_text}
 use Rattle.agent_end.specs.declared.ends.ReportRefused.{ReportRefused}
 use Rattle.agent_sinks.specs.declared.sink.AgentSink.{AgentSink}
@@ -17,8 +17,8 @@ use Rattle.agent_outside.specs.Ends.{AreOut, ListensAt, end_at, ends_of}
 use Rattle.agent_outside.specs.Sinks.{AreOfPlans, backs_of as rolls_of}
 use Rattle.channel_face.specs.History.{Shows}
 use Rattle.agent_channels.specs.Closings.{DisksBack, backs_of as disks_of}
-use Rattle.agent_channels.specs.Openings.{HostTold}
-use Rattle.agent_channels.specs.declared.wish.ChannelWish.{ChannelWish}
+use Rattle.channel_wishes.specs.Openings.{HostTold}
+use Rattle.channel_wishes.specs.declared.wish.ChannelWish.{ChannelWish}
 use Rattle.file_channel.specs.Stands.{FileState, StandsOver}
 use Rattle.channel_writing.specs.Touches.{Rests}
 use Rattle.memory_channel.specs.declared.channel.MemoryChannel.{MemoryChannel}

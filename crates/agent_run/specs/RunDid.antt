@@ -5,7 +5,7 @@ use Rattle.channel_face.specs.History.{Opening, Step}
 use Rattle.channel_face.specs.Machine.{State}
 use Rattle.channel_face.specs.declared.replies.Counts.{Counts}
 use Rattle.event_core.specs.Content.{Content}
-use Rattle.flume_config.specs.declared.plan.Plan.{Plan}
+use Rattle.agent_plan.specs.declared.plan.Plan.{Plan}
 use Rattle.plug_in.specs.declared.sink.SinkRefused.{SinkRefused}
 use Rattle.flume_host.specs.HostState.{HostState}
 use Rattle.grouped_sinks.specs.declared.row.SinkRow.{SinkRow}
@@ -21,8 +21,8 @@ use Rattle.two_channels.specs.declared.port.EitherPort.{EitherPort}
 use Rattle.two_channels.specs.declared.shared.EitherShared.{EitherShared}
 use Rattle.run_tracks.specs.Closes.{IsClosed}
 use Rattle.run_tracks.specs.Stops.{IsKept, IsMended}
-use Rattle.agent_channels.specs.Openings.{HostTold}
-use Rattle.agent_channels.specs.declared.wish.ChannelWish.{ChannelWish}
+use Rattle.channel_wishes.specs.Openings.{HostTold}
+use Rattle.channel_wishes.specs.declared.wish.ChannelWish.{ChannelWish}
 use Rattle.agent_end.specs.Statuses.{run_status}
 use Rattle.agent_end.specs.declared.ends.ReportRefused.{ReportRefused}
 use Rattle.agent_end.specs.declared.ends.RunEnds.{RunEnds}

@@ -1,8 +1,8 @@
 -- What a run left that ended well.
 use Rattle.std.specs.Prelude.{◌≡◌, ℕ, List, Option, length}
-use Rattle.agent_channels.specs.Openings.{HostTold}
+use Rattle.channel_wishes.specs.Openings.{HostTold}
 use Rattle.agent_end.specs.declared.ends.RunEnds.{RunEnds}
-use Rattle.flume_config.specs.declared.plan.Plan.{Plan}
+use Rattle.agent_plan.specs.declared.plan.Plan.{Plan}
 use Rattle.grouped_sinks.specs.declared.row.SinkRow.{SinkRow}
 use Rattle.shared_channel.specs.Passes.{Known}
 use Rattle.agent_run.specs.DrainedTold.{DrainedTold}

@@ -1,17 +1,17 @@
 -- A run of what was opened, to its end.
 use Rattle.std.specs.Prelude.{◌≡◌, ◌⊎◌, ℕ, Bool, List, All, map, Option, Result, String, length}
 use Rattle.std.specs.declared.alloc.Global.{Global}
-use Rattle.agent_channels.specs.Openings.{HostTold}
-use Rattle.agent_channels.specs.Several.{AreOpened}
-use Rattle.agent_channels.specs.declared.opened.OpenedChannel.{OpenedChannel}
-use Rattle.agent_channels.specs.declared.wish.ChannelWish.{ChannelWish}
+use Rattle.channel_wishes.specs.Openings.{HostTold}
+use Rattle.channel_wishes.specs.Opened.{AreOpened}
+use Rattle.channel_wishes.specs.declared.opened.OpenedChannel.{OpenedChannel}
+use Rattle.channel_wishes.specs.declared.wish.ChannelWish.{ChannelWish}
 use Rattle.agent_end.specs.declared.ends.ReportRefused.{ReportRefused}
 use Rattle.agent_end.specs.Statuses.{run_status}
 use Rattle.agent_end.specs.declared.ends.RunEnds.{RunEnds}
 use Rattle.channel_face.specs.declared.replies.Counts.{Counts}
 use Rattle.agent_commands.specs.Checked.{IsPlanOf, Lacking}
-use Rattle.flume_config.specs.declared.plan.ChannelPlan.{ChannelPlan}
-use Rattle.flume_config.specs.declared.plan.Plan.{Plan}
+use Rattle.agent_plan.specs.declared.plan.ChannelPlan.{ChannelPlan}
+use Rattle.agent_plan.specs.declared.plan.Plan.{Plan}
 use Rattle.grouped_sinks.specs.Rows.{AreRows}
 use Rattle.grouped_sinks.specs.declared.row.SinkRow.{SinkRow}
 use Rattle.flume_host.specs.HostState.{HostState}

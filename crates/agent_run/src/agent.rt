@@ -2,8 +2,8 @@
 ghost use Rattle.std.specs.Prelude.{◌≡◌, ◌+◌, ◌++◌, ◌≤◌, [], All, IfErr, IfOk, Some, length, map, reverse};
 ghost use Rattle.two_channels.specs.Shares.{pass_of};
 ghost use Rattle.std.specs.Vec.{vec_capacity};
-ghost use Rattle.agent_channels.specs.Closings.{AreOfWishes, AreOut};
-ghost use Rattle.agent_channels.specs.Several.{WereOpened};
+ghost use Rattle.channel_wishes.specs.Places.{AreOfWishes, AreOut};
+ghost use Rattle.channel_wishes.specs.Opened.{WereOpened};
 ghost use Rattle.agent_end.specs.Statuses.{run_status};
 ghost use Rattle.agent_outside.specs.Sinks.{AreOpened};
 ghost use Rattle.agent_words.specs.Statuses.{status_of};
@@ -26,18 +26,16 @@ use crate::laws::runs_are_told;
 use crate::rests::channels_rest;
 use crate::through::{Goes, OpeningOf, RunOf, RunnerOf, Runs, SinkOf, Steps};
 use crate::told::steps_are_told;
-use agent_channels::{
-    ChannelRefused, ChannelWish, OpenedChannel, close_channels, closed_channels_fit,
-    give_all_unused, open_channels,
-};
+use agent_channels::{close_channels, closed_channels_fit, give_all_unused, open_channels};
 use agent_commands::{Planned, plan_agent, unopened};
 use agent_end::RunEnds;
 use agent_outside::give_back_sinks;
+use agent_plan::{ChannelKind, ChannelPlan, Plan, SinkPlan};
 use agent_words::RunError;
 use avro_ends::{AvroSink, HasDialer};
 use channel_face::OpenCause;
+use channel_wishes::{ChannelRefused, ChannelWish, OpenedChannel};
 use file_channel::FileChannel;
-use flume_config::{ChannelKind, ChannelPlan, Plan, SinkPlan};
 use flume_host::Host;
 use grouped_sinks::{
     Frame, SinkRow, frames_of, rows_are_apart, rows_of, runners_split, ungroup_sinks,

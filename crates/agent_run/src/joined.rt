@@ -18,9 +18,9 @@ ghost use Rattle.run_staff.specs.Jobs.{AreNew, AreOnDisks, AreWorkers, CanRun, H
 ghost use Rattle.run_working.specs.Runs.{runs};
 
 use agent_outside::SourceListener;
+use agent_plan::SourcePlan;
 use channel_face::{Channel, Durable};
 use crew::{DrainWorker, Work};
-use flume_config::SourcePlan;
 use flume_host::{Clock, Host, Listener, Sink, Source};
 use keep_worker::KeepWorker;
 use line_worker::LineWorker;

@@ -20,7 +20,7 @@ use std::sync::Wait;
 use two_channels::EitherPort;
 
 /// The first of a channel's new passes carries a number of its own, and so does a pass at home that took others in: as
-/// [`drain_sinks`](crate::drain_sinks) asks it of the passes at home after a run.
+/// [`settle`](run_settling::settle) asks it of the passes at home after a run.
 pub fn own_numbers_are_kept()
     ensures first { FirstHasOwn }
     ensures kept { OwnIsKept }

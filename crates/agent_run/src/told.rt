@@ -1,8 +1,8 @@
 // What the steps of a run come to.
 ghost use Rattle.std.specs.Prelude.{List, Option};
-ghost use Rattle.agent_channels.specs.Openings.{HostTold};
+ghost use Rattle.channel_wishes.specs.Openings.{HostTold};
 ghost use Rattle.agent_end.specs.declared.ends.RunEnds.{RunEnds};
-ghost use Rattle.flume_config.specs.declared.plan.Plan.{Plan};
+ghost use Rattle.agent_plan.specs.declared.plan.Plan.{Plan};
 ghost use Rattle.agent_run.specs.FoldersTold.{FoldersAreApart};
 ghost use Rattle.run_opening.specs.Prepared.{IsPlanned};
 ghost use Rattle.run_opening.specs.declared.channel_end.ChannelEnd.{ChannelEnd};

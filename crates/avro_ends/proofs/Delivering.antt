@@ -6,8 +6,8 @@ use Rattle.flume_host.specs.Told.{Tells}
 use Rattle.flume_host.specs.Links.{BreaksOff, LinkTold, Talks, TalksTo, Waited}
 use Rattle.flume_host.specs.Listens.{LinksTold, IsSettled, gave_one, refused_link, kept_in}
 use Rattle.flume_host.proofs.Talking.{failed_behind, talks_to, waited_then}
-use Rattle.hop_core.specs.declared.attempt.Decision.{Decision}
-use Rattle.hop_core.specs.declared.attempt.Decision.TheVariants.{Commit, Rollback}
+use Rattle.hop_attempt.specs.declared.attempt.Decision.{Decision}
+use Rattle.hop_attempt.specs.declared.attempt.Decision.TheVariants.{Commit, Rollback}
 use Rattle.avro_frame.specs.declared.packs.Message.{Message}
 use Rattle.avro_frame.specs.Pack.{InHead}
 use Rattle.avro_hop.specs.declared.respond.Status.{Status}

@@ -10,7 +10,7 @@ use avro_frame::{MAX_BYTES, begin_pack, end_pack};
 use avro_hop::{Status, add_asking, read_reply};
 use event_core::{Batch, NoMemory};
 use flume_host::{Link, write_all};
-use hop_core::{Attempt, Decision};
+use hop_attempt::{Attempt, Decision};
 use std::alloc::Global;
 
 /// The pack of a request, with no copy of its payload. One that fits no pack is out of memory.

@@ -1,5 +1,5 @@
 -- Which puts a transaction has after a call.
-use Rattle.std.proofs.Common.{◌⊎◌, inl, inr, ◌≡◌, ◌≢◌, ◌<◌, ◌≤◌, ◌^◌, ◌==◌, [], ℕ, List, Option, Some, None, Bool, true, false, refl, sym, ◌∙◌, ap, arith}
+use Rattle.std.proofs.Common.{◌⊎◌, inl, inr, ◌≡◌, ◌≢◌, ◌<◌, ◌^◌, ◌==◌, [], ℕ, Option, Some, None, Bool, true, false, refl, sym, ◌∙◌, ap, arith}
 use Rattle.std.proofs.lemmas.Bool.Decides.{eqb_tells}
 use Rattle.open_table.specs.Tables.{HasAt, Listed, Open, Puts, Table, Takes, added, begun, open_at, puts_of, with_item}
 use Rattle.open_table.specs.declared.table.Item.TheVariants.{Take}

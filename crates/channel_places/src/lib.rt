@@ -2,8 +2,6 @@
 #![tactic(auto)]
 
 mod places;
-#[cfg(test)]
-mod rows;
 mod settling;
 
 pub use places::Held;

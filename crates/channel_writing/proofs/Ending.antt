@@ -10,7 +10,7 @@ use Rattle.event_core.specs.declared.journal.Entry.TheVariants.{Puts, Takes}
 use Rattle.record_form.specs.declared.record.Rec.{Rec}
 use Rattle.record_form.specs.declared.record.Rec.TheVariants.{Rollback, CommitPut, CommitTake}
 use Rattle.channel_face.specs.Machine as Face
-use Rattle.channel_face.specs.Machine.{State, base_of, entry_of, with_entry, without_entry, is_some_of, close, stage, settle}
+use Rattle.channel_face.specs.Machine.{State, base_of, entry_of, without_entry, is_some_of, stage}
 use Rattle.channel_face.specs.Sound.{times}
 use Rattle.channel_face.proofs.Numbers.{among_times, put_events-append, taken_numbers-append}
 use Rattle.channel_face.proofs.LawLemmas.{TakesEarlier, after-append}

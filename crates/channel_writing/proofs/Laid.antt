@@ -1,5 +1,5 @@
 -- A log that goes on after the place of a checkpoint.
-use Rattle.std.proofs.Common.{◌⊎◌, inl, inr, ◌≡◌, ◌≢◌, ◌<◌, ◌≤◌, ◌+◌, ◌^◌, ◌++◌, ◌∷◌, [], ◌==◌, ℕ, List, drop, length, length-append, Option, Some, None, Bool, true, false, refl, sym, ◌∙◌, ap, subst, arith}
+use Rattle.std.proofs.Common.{◌⊎◌, inl, inr, ◌≡◌, ◌≢◌, ◌<◌, ◌≤◌, ◌+◌, ◌++◌, ◌∷◌, [], ◌==◌, ℕ, List, drop, length, length-append, Option, Some, None, Bool, true, false, refl, sym, ◌∙◌, ap, subst, arith}
 use Rattle.std.specs.Prelude.{IsSomeAnd, if◌then◌else◌}
 use Rattle.std.proofs.lemmas.Bool.Decides.{eqb_tells}
 use Rattle.std.proofs.lemmas.List.{append-nil, drop_at}
@@ -8,14 +8,13 @@ use Rattle.flume_host.specs.declared.names.FileName.TheVariants.{Log}
 use Rattle.event_core.specs.Journal.{Base}
 use Rattle.event_core.specs.declared.journal.Entry.{Entry}
 use Rattle.record_form.specs.declared.record.Rec.{Rec}
-use Rattle.channel_log.specs.Frames.{Blank, Commits, Content, Holds, IsBirth, Whole, frame_bytes, header, opened}
+use Rattle.channel_log.specs.Frames.{Blank, Commits, Content, Holds, IsBirth, Whole, header, opened}
 use Rattle.channel_log.specs.Reader.{Goes, frame_items}
 use Rattle.channel_log.specs.Writer.{HasFrames}
 use Rattle.channel_face.specs.Machine.{State, entry_of}
-use Rattle.channel_face.specs.Sound.{IsSoundState}
 use Rattle.channel_replay.specs.declared.line.Line.{Line}
 use Rattle.channel_replay.specs.Marks.{Dropped, Past, open_txns}
-use Rattle.channel_replay.specs.Recover.{AreSound, file_lines, past_lines, record_lines}
+use Rattle.channel_replay.specs.Recover.{file_lines, record_lines}
 use Rattle.channel_replay.specs.Start.{Start, start_past}
 use Rattle.channel_replay.specs.StartLaws.{done_of}
 use Rattle.checkpoint.specs.declared.place.Place.{Place}
@@ -24,8 +23,8 @@ use Rattle.checkpoint_recovery.specs.Reading.{HasFrom, LinesFrom}
 use Rattle.checkpoint_recovery.specs.Recovers.{BeginsAt, From}
 use Rattle.checkpoint_recovery.proofs.Readings.{reads_on}
 use Rattle.channel_writing.specs.Laws.{IsLaidAt, LaidGoesOn, LaidIsLogged}
-use Rattle.channel_writing.specs.Logs.{GoesOn, Logs, entered, entered_at, flat}
-use Rattle.channel_writing.specs.Mirrors.{AreLegal, IsStartOf, Mirrors, applied, busy, one_if_done}
+use Rattle.channel_writing.specs.Logs.{GoesOn, entered, entered_at}
+use Rattle.channel_writing.specs.Mirrors.{AreLegal, Mirrors, applied, busy, one_if_done}
 use Rattle.channel_writing.proofs.Checking.{checkpoint_mirrored}
 use Rattle.channel_writing.proofs.Recovering.{firsts-frames, firsts, held_content, length-header, past_records, sound_records, whole_past, whole_sound}
 

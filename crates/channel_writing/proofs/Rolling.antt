@@ -2,7 +2,7 @@
 use Rattle.std.proofs.Common.{zero, suc, ◌⊎◌, inl, inr, ◌≡◌, ◌<◌, ◌≤◌, ◌+◌, ◌-◌, ◌++◌, ◌∷◌, [], ℕ, List, length, length-append, Option, Some, None, Bool, true, false, refl, sym, ◌∙◌, ap, subst, arith}
 use Rattle.std.proofs.lemmas.List.{append-nil}
 use Rattle.std.specs.Prelude.{IsSome, IsSomeAnd, if◌then◌else◌}
-use Rattle.flume_host.specs.Folder.{Allows, Entry, Files, Gone, IsImage, same_name, settle_entry, with_at}
+use Rattle.flume_host.specs.Folder.{Allows, Entry, Files, Gone, IsImage, same_name, with_at}
 use Rattle.flume_host.specs.Told.{Changes, LeavesOnly, OneFile, Tells, Told}
 use Rattle.flume_host.specs.declared.names.FileName.{FileName}
 use Rattle.flume_host.specs.declared.names.FileName.TheVariants.{Log}

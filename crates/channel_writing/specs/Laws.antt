@@ -10,7 +10,7 @@ use Rattle.record_form.specs.declared.record.Rec.{Rec}
 use Rattle.record_form.specs.declared.record.Rec.TheVariants.{Put, Take, Rollback, CommitPut, CommitTake}
 use Rattle.channel_log.specs.Frames.{IsBirth, header, opened}
 use Rattle.channel_log.specs.Writer.{HasFrames}
-use Rattle.channel_face.specs.Machine.{State, base_of, entry_of, with_entry, close, free, next_number, settle, stage}
+use Rattle.channel_face.specs.Machine.{State, entry_of, with_entry, close, free, next_number, settle, stage}
 use Rattle.channel_replay.specs.Marks.{Past, journal, next_txn}
 use Rattle.channel_face.specs.Sound.{IsSoundState}
 use Rattle.channel_replay.specs.Start.{IsStart, Start, start_past}

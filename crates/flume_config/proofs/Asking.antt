@@ -5,7 +5,7 @@ use Rattle.std.specs.Borrow.{Bor}
 use Rattle.std.specs.List.{flat_map}
 use Rattle.prop_text.specs.Views.{texts}
 use Rattle.plan_judging.specs.Candidates.{Seen, adds, Adds}
-use Rattle.flume_config.specs.Patterns.{Asked, Asks, IsVerdict, AreVerdicts, bad_one, bad_ones}
+use Rattle.agent_plan.specs.Patterns.{Asked, Asks, IsVerdict, AreVerdicts, bad_one, bad_ones}
 use Rattle.plan_judging.proofs.Joins.{adds_more, adds_nothing, join, add_nothing, drop_texts}
 
 pub ask_none : (s : Seen) → Asks s s []

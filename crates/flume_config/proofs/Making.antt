@@ -4,7 +4,7 @@ use Rattle.std.proofs.lemmas.List.{drop_all, length-map}
 use Rattle.std.specs.Borrow.{Bor}
 use Rattle.prop_text.specs.Views.{texts}
 use Rattle.plan_judging.proofs.Joins.{drop_texts}
-use Rattle.flume_config.specs.Values.{Match}
+use Rattle.agent_plan.specs.Values.{Match}
 
 -- a loop that makes a component for each name
 pub record Makes {A : Type 0} (R : List ℕ → A → Type 0) (n : ℕ) (names : List (Bor (List ℕ))) (made : List A) : Type 0 where

@@ -10,7 +10,7 @@ use Rattle.std.specs.declared.alloc.Global.{Global}
 use Rattle.prop_text.specs.Pairs.{Pair}
 use Rattle.plan_judging.specs.Components.{once}
 use Rattle.plan_judging.specs.Words.{words}
-use Rattle.flume_config.specs.Values.{place_of, mapped_at, seen_pair}
+use Rattle.agent_plan.specs.Values.{place_of, mapped_at, seen_pair}
 
 pub maps_none : (others : List (List ℕ)) (front : List ℕ) (p : Pair) (old : List (List ℕ × List ℕ)) → starts_with nat_eq p.key front ≡ false → old ≡ old ++ mapped_at others front p
 maps_none others front p old e = rw e (sym (append-nil old))

@@ -5,7 +5,7 @@ use Rattle.plan_refused.specs.declared.refused.PlanRefused.{PlanRefused}
 use Rattle.plan_refused.specs.declared.refused.PlanRefused.TheVariants.{NoAgent, UnknownType, UnknownName, BadNumber, BadPattern, Unsupported, Clash, Missing, NoMemory}
 use Rattle.plan_judging.specs.Agents.{is_agent}
 use Rattle.plan_judging.specs.Candidates.{Seen}
-use Rattle.flume_config.specs.Plans.{Refuses, IsJudged, Plans}
+use Rattle.agent_plan.specs.Plans.{Refuses, IsJudged, Plans}
 
 pub refuses_plan : (pairs : List Pair) (agent : List ℕ) (s : Seen) (e : PlanRefused) → is_agent pairs agent ≡ true → IsJudged pairs agent s → Refuses s e → Plans pairs agent (Err e)
 refuses_plan pairs agent s NoAgent there is h = absurd h

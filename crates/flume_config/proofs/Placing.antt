@@ -6,7 +6,7 @@ use Rattle.std.specs.Borrow.{Bor}
 use Rattle.std.specs.List.{prefix_len, position}
 use Rattle.std.specs.Str.{bytes_eq}
 use Rattle.prop_text.specs.Views.{texts}
-use Rattle.flume_config.specs.Values.{place_of}
+use Rattle.agent_plan.specs.Values.{place_of}
 
 abbrev place_in : List ℕ → List (Bor (List ℕ)) → ℕ
 place_in name keys = prefix_len (λ k. not (bytes_eq name k.now)) keys

@@ -1,5 +1,1 @@
-pub mod Patterns
-pub mod Faults
-pub mod Values
-pub mod Plans
-pub mod Laws
+pub mod Names

@@ -4,11 +4,12 @@ ghost use Rattle.std.specs.Prelude.{◌≡◌, IfOk, MatchOption, ◌++◌, true
 ghost use Rattle.plan_judging.specs.Agents.{is_agent};
 ghost use Rattle.prop_text.specs.Views.{texts};
 ghost use Rattle.plan_judging.specs.Candidates.{seen};
-ghost use Rattle.flume_config.specs.Plans.{IsJudged, IsRight, Refuses, IsPlan, Plans, Names};
+ghost use Rattle.agent_plan.specs.Plans.{IsJudged, IsRight, Refuses, IsPlan, Plans};
+ghost use Rattle.flume_config.specs.Names.{Names};
 
 use crate::patterns::judge;
-use crate::plan::Plan;
 use crate::planning::{AgentNames, is_agent, plan_each};
+use agent_plan::Plan;
 use plan_judging::{Agent, FaultKind, Findings, Place, names_at};
 use plan_refused::PlanRefused;
 use prop_text::Properties;

@@ -7,8 +7,8 @@ ghost use Rattle.prop_text.specs.Views.{texts};
 ghost use Rattle.prop_text.specs.Winners.{lookup};
 ghost use Rattle.plan_judging.specs.Candidates.{seen};
 ghost use Rattle.plan_judging.specs.Components.{front_of, names_in};
-ghost use Rattle.flume_config.specs.Patterns.{Asked, Asks, IsVerdict, asked_at, asked_of_date, asked_of_extractor, asked_of_kind, asked_by_kind, asked_of_step};
-ghost use Rattle.flume_config.specs.Plans.{IsSeen};
+ghost use Rattle.agent_plan.specs.Patterns.{Asked, Asks, IsVerdict, asked_at, asked_of_date, asked_of_extractor, asked_of_kind, asked_by_kind, asked_of_step};
+ghost use Rattle.agent_plan.specs.Plans.{IsSeen};
 
 use indexmap::IndexSet;
 use plan_judging::{

@@ -6,17 +6,17 @@ ghost use Rattle.prop_text.specs.Pairs.{Pair};
 ghost use Rattle.prop_text.specs.Views.{texts};
 ghost use Rattle.plan_judging.specs.Components.{front_of, names_in};
 ghost use Rattle.plan_judging.specs.Agents.{is_agent};
-ghost use Rattle.flume_config.specs.Values.{text_at, line_at, place_of, IsSourceKind, IsSource, IsChannel, SinkWith, processor_of, penalty_of, backoff_of, priority_of, GroupWith, StepNamed, IsSelector, Match};
+ghost use Rattle.agent_plan.specs.Values.{text_at, line_at, place_of, IsSourceKind, IsSource, IsChannel, SinkWith, processor_of, penalty_of, backoff_of, priority_of, GroupWith, StepNamed, IsSelector, Match};
 ghost use Rattle.plan_judging.specs.Rows.{is_type, is_plugin};
 
-use crate::plan::{
-    ChannelKind, ChannelPlan, GroupPlan, Processor, SinkKind, SinkPlan, SourceKind, SourcePlan,
-    StepPlan,
-};
 use crate::routing::selector;
 use crate::stepping::steps;
 use crate::values::{
     count_at, line_at, number_at, place_at, places, port_at, str_at, text_at, truth_at,
+};
+use agent_plan::{
+    ChannelKind, ChannelPlan, GroupPlan, Processor, SinkKind, SinkPlan, SourceKind, SourcePlan,
+    StepPlan,
 };
 use indexmap::IndexSet;
 use plan_judging::{Agent, Place, front_of, is_plugin, is_type, joined, names_at, plugin_name};

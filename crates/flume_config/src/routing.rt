@@ -6,7 +6,7 @@ ghost use Rattle.prop_text.specs.Views.{texts};
 ghost use Rattle.plan_judging.specs.Rows.{is_type};
 ghost use Rattle.plan_judging.specs.Components.{once};
 ghost use Rattle.plan_judging.specs.Words.{words};
-ghost use Rattle.flume_config.specs.Values.{text_at, place_of, places_at, mapped_at, mapped, seen_pair, IsSelector};
+ghost use Rattle.agent_plan.specs.Values.{text_at, place_of, places_at, mapped_at, mapped, seen_pair, IsSelector};
 
 use crate::stepping::text_else;
 use crate::values::{places, str_at};

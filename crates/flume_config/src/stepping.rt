@@ -5,10 +5,10 @@ ghost use Rattle.prop_text.specs.Views.{texts};
 ghost use Rattle.prop_text.specs.Winners.{lookup};
 ghost use Rattle.plan_judging.specs.Components.{names_in};
 ghost use Rattle.plan_judging.specs.Rows.{is_type, is_plugin, is_timestamp, is_host};
-ghost use Rattle.flume_config.specs.Values.{text_at, text_else, pattern_line, removed, names_listed, date_of, is_other, IsStep, IsGroup, IsRegex, IsStepPlan, StepNamed, Match};
+ghost use Rattle.agent_plan.specs.Values.{text_at, text_else, pattern_line, removed, names_listed, date_of, is_other, IsStep, IsGroup, IsRegex, IsStepPlan, StepNamed, Match};
 
-use crate::plan::StepPlan;
 use crate::values::{line_at, str_at, text_at, truth_at};
+use agent_plan::StepPlan;
 use interceptors::Step;
 use plan_judging::{
     Place, front_of, is_host, is_millis, is_plugin, is_timestamp, is_type, names_at, plugin_name,

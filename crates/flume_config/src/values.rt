@@ -2,7 +2,7 @@
 
 ghost use Rattle.std.specs.Prelude.{◌≡◌, ◌≤◌, ◌<◌, ◌++◌, OnOk, IfOk, string_bytes, codes, map};
 ghost use Rattle.prop_text.specs.Views.{texts};
-ghost use Rattle.flume_config.specs.Values.{text_at, line_at, number_at, truth_at, place_of};
+ghost use Rattle.agent_plan.specs.Values.{text_at, line_at, number_at, truth_at, place_of};
 
 use indexmap::IndexSet;
 use plan_judging::{Place, number, truth, value_at};

@@ -2,8 +2,8 @@
 use Rattle.std.proofs.Common.{◌≡◌, ◌∙◌, ◌<◌, ◌≤◌, ℕ, zero, suc, List, [], ◌∷◌, All, Option, Some, None, fold, length, map, min, slice_get, slice_index, sym, ap, subst, arith}
 use Rattle.std.proofs.lemmas.List.Elements.{All-append, All-cons, All-head, All-nil, All-tail}
 use Rattle.std.proofs.lemmas.Option.{slice_get_within}
-use Rattle.flume_config.specs.declared.plan.GroupPlan.{GroupPlan}
-use Rattle.flume_config.specs.declared.plan.SinkPlan.{SinkPlan}
+use Rattle.agent_plan.specs.declared.plan.GroupPlan.{GroupPlan}
+use Rattle.agent_plan.specs.declared.plan.SinkPlan.{SinkPlan}
 use Rattle.grouped_sinks.specs.Frames.{HasGroup, IsFit}
 use Rattle.grouped_sinks.specs.Rows.{AreRows, AreThere, IsLone, IsOfGroup, Zips, batch_at, has_sinks, is_lone, places_where}
 use Rattle.grouped_sinks.specs.declared.row.SinkRow.{SinkRow}

@@ -1,7 +1,7 @@
 -- Sinks at places.
 use Rattle.std.proofs.Common.{◌≡◌, ◌∙◌, ◌≢◌, ◌<◌, ◌++◌, append-nil, append_assoc, ℕ, zero, suc, List, [], ◌∷◌, Option, Some, None, length, length-set, get_or, set, slice_get, take, flat_map, refl, sym, ap, subst, arith}
 use Rattle.std.specs.List.{AllByRecursion}
-use Rattle.flume_config.specs.declared.plan.GroupPlan.{GroupPlan}
+use Rattle.agent_plan.specs.declared.plan.GroupPlan.{GroupPlan}
 use Rattle.sink_groups.specs.Scheduler.{Group as Schedule}
 use Rattle.std.specs.declared.alloc.Global.{Global}
 use Rattle.std.specs.declared.vec.Vec.{Vec}

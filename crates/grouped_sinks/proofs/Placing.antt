@@ -4,8 +4,8 @@ use Rattle.std.proofs.lemmas.Bool.Decides.{eqb_tells}
 use Rattle.std.proofs.lemmas.List.{take_all}
 use Rattle.std.proofs.lemmas.List.Elements.{All-head, All-tail}
 use Rattle.std.specs.List.{AllByRecursion, list_any}
-use Rattle.flume_config.specs.declared.plan.GroupPlan.{GroupPlan}
-use Rattle.flume_config.specs.declared.plan.SinkPlan.{SinkPlan}
+use Rattle.agent_plan.specs.declared.plan.GroupPlan.{GroupPlan}
+use Rattle.agent_plan.specs.declared.plan.SinkPlan.{SinkPlan}
 use Rattle.grouped_sinks.specs.Rows.{AddsIf, AreBelow, AreRows, AreThere, IsAmong, IsLone, IsOfGroup, IsOrder, JoinedBy, Zips, has_sinks, is_empty, is_grouped, is_lone, places_of, places_where}
 use Rattle.plan_laws.specs.Once.{AreDistinct, AreOthers, group_places}
 use Rattle.grouped_sinks.specs.declared.row.SinkRow.{SinkRow}

@@ -1,9 +1,9 @@
 -- What a row of a run has before its sinks are there, and once they are.
 use Rattle.std.specs.Prelude.{◌≡◌, ◌<◌, ◌≤◌, ℕ, List, [], length, slice_get, Option, Some, None}
 use Rattle.std.specs.Vec.{vec_capacity}
-use Rattle.flume_config.specs.declared.plan.GroupPlan.{GroupPlan}
-use Rattle.flume_config.specs.declared.plan.Processor.{Processor}
-use Rattle.flume_config.specs.declared.plan.Processor.TheVariants as by
+use Rattle.agent_plan.specs.declared.plan.GroupPlan.{GroupPlan}
+use Rattle.agent_plan.specs.declared.plan.Processor.{Processor}
+use Rattle.agent_plan.specs.declared.plan.Processor.TheVariants as by
 use Rattle.sink_groups.specs.Scheduler.{IsNew, Group as Schedule}
 use Rattle.sink_groups.specs.declared.rules.GroupKind.{GroupKind}
 use Rattle.sink_groups.specs.declared.rules.GroupKind.TheVariants as kind

@@ -1,6 +1,6 @@
 -- Sinks that stand in the order of their plan, and in the rows of a run.
 use Rattle.std.specs.Prelude.{◌≡◌, ℕ, List, length, slice_get, Some}
-use Rattle.flume_config.specs.declared.plan.GroupPlan.{GroupPlan}
+use Rattle.agent_plan.specs.declared.plan.GroupPlan.{GroupPlan}
 use Rattle.grouped_sinks.specs.Frames.{IsNewRunner}
 use Rattle.grouped_sinks.specs.Rows.{Zips}
 use Rattle.plan_laws.specs.Once.{AreOthers}

@@ -1,8 +1,8 @@
 -- The rows of a run: each is of a sink that stands in no group, or of a group.
 use Rattle.std.specs.Prelude.{◌≡◌, ◌⊎◌, ◌<◌, ◌++◌, ◌==◌, min, not, ℕ, zero, suc, Bool, true, false, List, [], ◌∷◌, All, codes, fold, flat_map, length, map, slice_get, slice_index, Some, None, string_bytes, if◌then◌else◌}
 use Rattle.std.specs.List.{list_any, AllByRecursion}
-use Rattle.flume_config.specs.declared.plan.GroupPlan.{GroupPlan}
-use Rattle.flume_config.specs.declared.plan.SinkPlan.{SinkPlan}
+use Rattle.agent_plan.specs.declared.plan.GroupPlan.{GroupPlan}
+use Rattle.agent_plan.specs.declared.plan.SinkPlan.{SinkPlan}
 use Rattle.plan_laws.specs.Once.{AreDistinct, group_places}
 use Rattle.grouped_sinks.specs.declared.row.SinkRow.{SinkRow}
 

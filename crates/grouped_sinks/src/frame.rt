@@ -4,7 +4,7 @@ ghost use Rattle.grouped_sinks.specs.Frames.{HasGroup, IsFit, IsFrame, IsFrameOf
 ghost use Rattle.grouped_sinks.specs.Rows.{Zips};
 
 use crate::row::SinkRow;
-use flume_config::{GroupPlan, Processor};
+use agent_plan::{GroupPlan, Processor};
 use flume_host::Host;
 use sink_groups::{GroupKind, GroupRules, Schedule};
 use std::alloc::{AllocError, Global};

@@ -2,7 +2,7 @@
 ghost use Rattle.std.specs.Prelude.{◌≡◌, ◌<◌, [], All, IfOk, OnOk, fold, length, min};
 ghost use Rattle.grouped_sinks.specs.Rows.{AddsIf, AreRows, AreThere, IsLone, IsOfGroup, JoinedBy, Zips, batch_at, channel_at, has_sinks, is_among, is_grouped, is_lone, places_where};
 
-use flume_config::{GroupPlan, Plan, SinkPlan};
+use agent_plan::{GroupPlan, Plan, SinkPlan};
 use std::alloc::{AllocError, Global};
 
 /// What one worker of a run drives: a sink that stands in no group, or a group.

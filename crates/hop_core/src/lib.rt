@@ -2,7 +2,6 @@
 //! and packets, and each step that it can take.
 #![tactic(auto)]
 
-mod attempt;
 mod channel;
 mod lists;
 mod node;
@@ -15,8 +14,8 @@ mod selector;
 mod work;
 mod world;
 
-pub use attempt::{Attempt, Decision};
 pub use channel::NodeChannel;
+pub use hop_attempt::{Attempt, Decision};
 pub use node::Node;
 pub use packets::{Body, Delivery, Packet, Tag};
 pub use plan::{HopStep, WorldChannel, WorldNode, WorldPlan};

@@ -7,7 +7,6 @@ ghost use Rattle.hop_core.specs.Done.{is_done};
 ghost use Rattle.hop_core.specs.Labels.{node_step};
 ghost use Rattle.hop_core.specs.Start.{new_node};
 
-use crate::attempt::Decision;
 use crate::channel::NodeChannel;
 use crate::lists::{clear, end, end_all, is_among, live, push_within};
 use crate::packets::{Body, Delivery, Packet, Tag};
@@ -18,6 +17,7 @@ use crate::work::{
     set_tag,
 };
 use event_core::{Batch, Event, NoMemory};
+use hop_attempt::Decision;
 use std::alloc::Global;
 use std::marker::Model;
 

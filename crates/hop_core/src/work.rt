@@ -7,9 +7,9 @@ ghost use Rattle.world_laws.specs.Channels.{is_none};
 ghost use Rattle.world_laws.specs.Steps.{is_passed, is_tag, without_works, without_attempts, has_from};
 ghost use Rattle.hop_core.specs.Ending.{unless_from, unless_of};
 
-use crate::attempt::{Attempt, Decision};
 use crate::packets::{Delivery, Tag};
 use event_core::{Batch, Event, NoMemory};
+use hop_attempt::{Attempt, Decision};
 use std::marker::Model;
 
 /// The channel of an entry, and its place among the channel's commits.

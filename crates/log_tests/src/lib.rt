@@ -1,4 +1,4 @@
-//! Tests of what channels are made of: events, records, pointers, rings and log files, with what cut and changed bytes leave.
+//! Tests of what channels are made of: events, records, pointers, rings, places and log files, with what cut and changed bytes leave.
 //! Most are scenarios, lines of a text.
 #![tactic(auto)]
 
@@ -14,6 +14,8 @@ mod frames;
 mod logs;
 #[cfg(test)]
 mod open_transactions;
+#[cfg(test)]
+mod places;
 #[cfg(test)]
 mod pointers;
 #[cfg(test)]

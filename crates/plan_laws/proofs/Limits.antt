@@ -7,18 +7,18 @@ use Rattle.prop_text.specs.Winners.{lookup}
 use Rattle.plan_judging.specs.Words.{decimal}
 use Rattle.plan_judging.specs.Components.{front_of}
 use Rattle.plan_judging.specs.Agents as agents
-use Rattle.flume_config.specs.declared.plan.Plan.{Plan}
-use Rattle.flume_config.specs.declared.plan.SourcePlan.{SourcePlan}
-use Rattle.flume_config.specs.declared.plan.SourceKind.{SourceKind}
-use Rattle.flume_config.specs.declared.plan.SourceKind.TheVariants.{Netcat, Avro, Stdin}
-use Rattle.flume_config.specs.declared.plan.ChannelPlan.{ChannelPlan}
-use Rattle.flume_config.specs.declared.plan.ChannelKind.{ChannelKind}
-use Rattle.flume_config.specs.declared.plan.ChannelKind.TheVariants.{Memory, File}
-use Rattle.flume_config.specs.declared.plan.SinkPlan.{SinkPlan}
-use Rattle.flume_config.specs.declared.plan.SinkKind.{SinkKind}
-use Rattle.flume_config.specs.declared.plan.SinkKind.TheVariants.{Null, Roll, Avro as Avro', Plugin}
-use Rattle.flume_config.specs.Values.{Match, IsSourceKind, IsChannelKind, IsSinkKind, SourceNamed, ChannelNamed, SinkNamed, number_of, number_at, text_at}
-use Rattle.flume_config.specs.Plans.{Plans}
+use Rattle.agent_plan.specs.declared.plan.Plan.{Plan}
+use Rattle.agent_plan.specs.declared.plan.SourcePlan.{SourcePlan}
+use Rattle.agent_plan.specs.declared.plan.SourceKind.{SourceKind}
+use Rattle.agent_plan.specs.declared.plan.SourceKind.TheVariants.{Netcat, Avro, Stdin}
+use Rattle.agent_plan.specs.declared.plan.ChannelPlan.{ChannelPlan}
+use Rattle.agent_plan.specs.declared.plan.ChannelKind.{ChannelKind}
+use Rattle.agent_plan.specs.declared.plan.ChannelKind.TheVariants.{Memory, File}
+use Rattle.agent_plan.specs.declared.plan.SinkPlan.{SinkPlan}
+use Rattle.agent_plan.specs.declared.plan.SinkKind.{SinkKind}
+use Rattle.agent_plan.specs.declared.plan.SinkKind.TheVariants.{Null, Roll, Avro as Avro', Plugin}
+use Rattle.agent_plan.specs.Values.{Match, IsSourceKind, IsChannelKind, IsSinkKind, SourceNamed, ChannelNamed, SinkNamed, number_of, number_at, text_at}
+use Rattle.agent_plan.specs.Plans.{Plans}
 use Rattle.plan_laws.specs.Limits.{IsFromTo, IsSourceLimited, IsKindLimited, IsChannelLimited, IsLimited}
 
 module _ (low high default : ℕ) (least : low ≤ default) (most : default ≤ high) where

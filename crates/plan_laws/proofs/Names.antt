@@ -12,8 +12,8 @@ use Rattle.prop_text.specs.Pairs.{Pair}
 use Rattle.prop_text.specs.Winners.{lookup}
 use Rattle.selectors.specs.declared.selector.Selector.{Selector}
 use Rattle.selectors.specs.declared.selector.Selector.TheVariants.{Replicating, Multiplexing}
-use Rattle.flume_config.specs.declared.plan.Plan.{Plan}
-use Rattle.flume_config.specs.declared.plan.SourcePlan.{SourcePlan}
+use Rattle.agent_plan.specs.declared.plan.Plan.{Plan}
+use Rattle.agent_plan.specs.declared.plan.SourcePlan.{SourcePlan}
 use Rattle.plan_judging.specs.declared.findings.FaultKind.TheVariants.{UnknownType, UnknownName}
 use Rattle.plan_judging.specs.Words.{words, is_among, all_among}
 use Rattle.plan_judging.specs.Candidates.{Candidates, Seen, nothing, each, ◌⊕◌}
@@ -21,14 +21,14 @@ use Rattle.plan_judging.specs.Rows.{is_type, when, one_fault, of_kind, judged_pa
 use Rattle.plan_judging.specs.declared.rules.Rule.TheVariants.{SelectorKind, SourceKind}
 use Rattle.plan_judging.specs.Components.{first_times, once, words_of, names_in, steps, source, source_by_kind, selector, selector_by_kind, multiplexing, channels_row, channels_rows, channels_key, judged_channels, front_of}
 use Rattle.plan_judging.specs.Claims.{clashes}
-use Rattle.flume_config.specs.Patterns.{asked_of, bad_ones}
+use Rattle.agent_plan.specs.Patterns.{asked_of, bad_ones}
 use Rattle.plan_judging.specs.Agents as agents
 use Rattle.plan_judging.specs.Agents.{candidates_of, components_of, claims_of, lists, source_named, channel_named, sink_named, group_named}
-use Rattle.flume_config.specs.Faults.{candidates, first_fault}
-use Rattle.flume_config.specs.Values.{Match, IsSource, IsSelector, SourceNamed, ChannelNamed, place_of, places_at, mapped_at, mapped, seen_pair, text_of}
-use Rattle.flume_config.specs.Plans.{Plans, IsJudged}
-use Rattle.flume_config.proofs.First.{first_is_first}
-use Rattle.flume_config.specs.Laws.{IsFirst}
+use Rattle.agent_plan.specs.Faults.{candidates, first_fault}
+use Rattle.agent_plan.specs.Values.{Match, IsSource, IsSelector, SourceNamed, ChannelNamed, place_of, places_at, mapped_at, mapped, seen_pair, text_of}
+use Rattle.agent_plan.specs.Plans.{Plans, IsJudged}
+use Rattle.agent_plan.proofs.First.{first_is_first}
+use Rattle.agent_plan.specs.Laws.{IsFirst}
 use Rattle.source_put.specs.Accepts.{NamesBelow}
 use Rattle.plan_laws.specs.Names.{IsWithin}
 

@@ -1,5 +1,5 @@
 -- No sink of a plan stands in groups twice.
-use Rattle.std.proofs.Common.{◌≡◌, ◌∙◌, ◌≢◌, ◌<◌, ◌+◌, ℕ, suc, Bool, true, false, not, cond, ◌||◌, ◌&&◌, List, [], ◌∷◌, ◌++◌, append_assoc, length, map, flat_map, All, Option, Some, None, Ok, codes, refl, sym, ap, subst, arith}
+use Rattle.std.proofs.Common.{◌≡◌, ◌∙◌, ◌≢◌, ◌+◌, ℕ, Bool, true, false, not, cond, ◌||◌, ◌&&◌, List, [], ◌∷◌, ◌++◌, map, flat_map, All, Option, Some, None, Ok, codes, refl, sym, ap, subst, arith}
 use Rattle.std.specs.List.{AllByRecursion}
 use Rattle.std.specs.Str.{bytes_eq}
 use Rattle.std.proofs.lemmas.Bool.{false≢true}
@@ -8,23 +8,23 @@ use Rattle.std.proofs.lemmas.List.Elements.{All-append, All-head, All-nil, All-t
 use Rattle.std.proofs.lemmas.Slice.Eq.{bytes_eq-Decides}
 use Rattle.prop_text.specs.Pairs.{Pair}
 use Rattle.prop_text.specs.Winners.{lookup}
-use Rattle.flume_config.specs.declared.plan.Plan.{Plan}
-use Rattle.flume_config.specs.declared.plan.GroupPlan.{GroupPlan}
+use Rattle.agent_plan.specs.declared.plan.Plan.{Plan}
+use Rattle.agent_plan.specs.declared.plan.GroupPlan.{GroupPlan}
 use Rattle.plan_judging.specs.declared.findings.FaultKind.TheVariants.{Clash}
 use Rattle.plan_judging.specs.Words.{words, is_among}
-use Rattle.plan_judging.specs.Candidates.{Candidates, Seen, nothing, each, ◌⊕◌}
+use Rattle.plan_judging.specs.Candidates.{Seen, nothing, each, ◌⊕◌}
 use Rattle.plan_judging.specs.Claims.{Wish, clash, clashes, group_wish, member_wish}
 use Rattle.plan_judging.specs.Components.{front_of, names_in, words_of, group, group_by_kind, one_channel}
 use Rattle.plan_judging.specs.Rows.{judged_names_of, names_row, one_fault, row, twice, unknown}
 use Rattle.plan_judging.specs.declared.rules.Rule.TheVariants.{ProcessorKind}
 use Rattle.plan_judging.specs.Agents as agents
 use Rattle.plan_judging.specs.Agents.{candidates_of, channel_claims, claims_of, group_claims, group_named, lists, sink_claims, source_claims, source_named, channel_named, sink_named}
-use Rattle.flume_config.specs.Faults.{candidates, first_fault}
-use Rattle.flume_config.specs.Patterns.{asked_of, bad_ones}
-use Rattle.flume_config.specs.Values.{GroupNamed, Match, place_of}
-use Rattle.flume_config.specs.Plans.{IsJudged, Plans}
-use Rattle.flume_config.specs.Laws.{IsFirst}
-use Rattle.flume_config.proofs.First.{first_is_first}
+use Rattle.agent_plan.specs.Faults.{candidates, first_fault}
+use Rattle.agent_plan.specs.Patterns.{asked_of, bad_ones}
+use Rattle.agent_plan.specs.Values.{GroupNamed, Match, place_of}
+use Rattle.agent_plan.specs.Plans.{IsJudged, Plans}
+use Rattle.agent_plan.specs.Laws.{IsFirst}
+use Rattle.agent_plan.proofs.First.{first_is_first}
 use Rattle.plan_laws.specs.Once.{AreDistinct, AreOthers, group_places}
 use Rattle.plan_laws.proofs.Names.{Clean, IsNamed, both_clean, components, components_clean, kept, known_names}
 

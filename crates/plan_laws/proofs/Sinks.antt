@@ -6,10 +6,10 @@ use Rattle.std.proofs.lemmas.List.Elements.{All-nil, All-cons, All-head}
 use Rattle.std.specs.Str.{bytes_eq}
 use Rattle.prop_text.specs.Pairs.{Pair}
 use Rattle.prop_text.specs.Winners.{lookup}
-use Rattle.flume_config.specs.declared.plan.Plan.{Plan}
-use Rattle.flume_config.specs.declared.plan.SinkPlan.{SinkPlan}
-use Rattle.flume_config.specs.declared.plan.GroupPlan.{GroupPlan}
-use Rattle.flume_config.specs.declared.plan.Processor.TheVariants.{Single, Failover, RoundRobin, Random}
+use Rattle.agent_plan.specs.declared.plan.Plan.{Plan}
+use Rattle.agent_plan.specs.declared.plan.SinkPlan.{SinkPlan}
+use Rattle.agent_plan.specs.declared.plan.GroupPlan.{GroupPlan}
+use Rattle.agent_plan.specs.declared.plan.Processor.TheVariants.{Single, Failover, RoundRobin, Random}
 use Rattle.plan_judging.specs.declared.findings.FaultKind.TheVariants.{UnknownType, Unsupported}
 use Rattle.plan_judging.specs.declared.rules.Rule.TheVariants.{ProcessorKind, SinkKind}
 use Rattle.plan_judging.specs.Words.{is_among}
@@ -17,14 +17,14 @@ use Rattle.plan_judging.specs.Candidates.{Candidates, Seen, nothing, each, â—ŒâŠ
 use Rattle.plan_judging.specs.Rows.{is_type, when, one_fault, of_kind, judged_pair, row, name_row, names_row, judged_name_of}
 use Rattle.plan_judging.specs.Components.{words_of, names_in, sink, sink_by_kind, group, group_by_kind, one_channel, several, failover, load_balance, front_of}
 use Rattle.plan_judging.specs.Claims.{clashes}
-use Rattle.flume_config.specs.Patterns.{asked_of, bad_ones}
+use Rattle.agent_plan.specs.Patterns.{asked_of, bad_ones}
 use Rattle.plan_judging.specs.Agents as agents
 use Rattle.plan_judging.specs.Agents.{candidates_of, claims_of, lists, source_named, channel_named, sink_named, group_named}
-use Rattle.flume_config.specs.Faults.{candidates, least_missing}
-use Rattle.flume_config.specs.Values.{Match, SinkWith, GroupWith, SinkNamed, GroupNamed, ChannelNamed, place_of, text_of, text_at, processor_of, priority_of}
-use Rattle.flume_config.specs.Plans.{Plans, IsJudged}
-use Rattle.flume_config.specs.Laws.{IsLeast}
-use Rattle.flume_config.proofs.First.{least_is_least}
+use Rattle.agent_plan.specs.Faults.{candidates, least_missing}
+use Rattle.agent_plan.specs.Values.{Match, SinkWith, GroupWith, SinkNamed, GroupNamed, ChannelNamed, place_of, text_of, text_at, processor_of, priority_of}
+use Rattle.agent_plan.specs.Plans.{Plans, IsJudged}
+use Rattle.agent_plan.specs.Laws.{IsLeast}
+use Rattle.agent_plan.proofs.First.{least_is_least}
 use Rattle.plan_laws.specs.Names.{IsGroupWithin}
 use Rattle.plan_laws.proofs.Names.{Clean, none_of, both_clean, IsNamed, known_names, place_below, listed_below, as_many, components, components_clean}
 

@@ -1,15 +1,15 @@
 -- The numbers of a plan are within the limits of what is made of it.
 use Rattle.std.specs.Prelude.{◌≤◌, ℕ, List, All, Ok}
 use Rattle.prop_text.specs.Pairs.{Pair}
-use Rattle.flume_config.specs.declared.plan.Plan.{Plan}
-use Rattle.flume_config.specs.declared.plan.SourcePlan.{SourcePlan}
-use Rattle.flume_config.specs.declared.plan.SourceKind.{SourceKind}
-use Rattle.flume_config.specs.declared.plan.SourceKind.TheVariants.{Netcat, Avro, Stdin}
-use Rattle.flume_config.specs.declared.plan.ChannelPlan.{ChannelPlan}
-use Rattle.flume_config.specs.declared.plan.ChannelKind.{ChannelKind}
-use Rattle.flume_config.specs.declared.plan.ChannelKind.TheVariants.{Memory, File}
-use Rattle.flume_config.specs.declared.plan.SinkPlan.{SinkPlan}
-use Rattle.flume_config.specs.Plans.{Plans}
+use Rattle.agent_plan.specs.declared.plan.Plan.{Plan}
+use Rattle.agent_plan.specs.declared.plan.SourcePlan.{SourcePlan}
+use Rattle.agent_plan.specs.declared.plan.SourceKind.{SourceKind}
+use Rattle.agent_plan.specs.declared.plan.SourceKind.TheVariants.{Netcat, Avro, Stdin}
+use Rattle.agent_plan.specs.declared.plan.ChannelPlan.{ChannelPlan}
+use Rattle.agent_plan.specs.declared.plan.ChannelKind.{ChannelKind}
+use Rattle.agent_plan.specs.declared.plan.ChannelKind.TheVariants.{Memory, File}
+use Rattle.agent_plan.specs.declared.plan.SinkPlan.{SinkPlan}
+use Rattle.agent_plan.specs.Plans.{Plans}
 
 -- from the first number to the second
 abbrev pub IsFromTo : ℕ → ℕ → ℕ → Type 0

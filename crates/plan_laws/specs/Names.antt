@@ -1,11 +1,11 @@
 -- What the components of a plan name is there.
 use Rattle.std.specs.Prelude.{◌≡◌, ◌<◌, ◌≤◌, ℕ, List, All, length, Ok}
 use Rattle.prop_text.specs.Pairs.{Pair}
-use Rattle.flume_config.specs.declared.plan.Plan.{Plan}
-use Rattle.flume_config.specs.declared.plan.SourcePlan.{SourcePlan}
-use Rattle.flume_config.specs.declared.plan.GroupPlan.{GroupPlan}
-use Rattle.flume_config.specs.declared.plan.Processor.TheVariants.{Single}
-use Rattle.flume_config.specs.Plans.{Plans}
+use Rattle.agent_plan.specs.declared.plan.Plan.{Plan}
+use Rattle.agent_plan.specs.declared.plan.SourcePlan.{SourcePlan}
+use Rattle.agent_plan.specs.declared.plan.GroupPlan.{GroupPlan}
+use Rattle.agent_plan.specs.declared.plan.Processor.TheVariants.{Single}
+use Rattle.agent_plan.specs.Plans.{Plans}
 use Rattle.source_put.specs.Accepts.{NamesBelow}
 
 -- each channel of the source is one of so many, and each that its selector names is one of the source's

@@ -2,9 +2,9 @@
 use Rattle.std.specs.Prelude.{◌≢◌, ℕ, List, [], ◌∷◌, flat_map, Ok}
 use Rattle.std.specs.List.{AllByRecursion}
 use Rattle.prop_text.specs.Pairs.{Pair}
-use Rattle.flume_config.specs.declared.plan.Plan.{Plan}
-use Rattle.flume_config.specs.declared.plan.GroupPlan.{GroupPlan}
-use Rattle.flume_config.specs.Plans.{Plans}
+use Rattle.agent_plan.specs.declared.plan.Plan.{Plan}
+use Rattle.agent_plan.specs.declared.plan.GroupPlan.{GroupPlan}
+use Rattle.agent_plan.specs.Plans.{Plans}
 
 -- none of these is the place
 abbrev pub AreOthers : ℕ → List ℕ → Type 0

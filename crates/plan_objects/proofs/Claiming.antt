@@ -4,9 +4,9 @@ use Rattle.std.proofs.lemmas.List.{append-nil, length-map, take_more}
 use Rattle.std.proofs.lemmas.List.Concat.{flat_map-append}
 use Rattle.std.proofs.lemmas.List.Sums.{fold-append}
 use Rattle.plan_objects.specs.Named.{Named}
-use Rattle.flume_config.specs.declared.plan.SourcePlan.{SourcePlan}
-use Rattle.flume_config.specs.declared.plan.StepPlan.{StepPlan}
-use Rattle.flume_config.specs.declared.plan.StepPlan.TheVariants.{Step, Regex, Plugin}
+use Rattle.agent_plan.specs.declared.plan.SourcePlan.{SourcePlan}
+use Rattle.agent_plan.specs.declared.plan.StepPlan.{StepPlan}
+use Rattle.agent_plan.specs.declared.plan.StepPlan.TheVariants.{Step, Regex, Plugin}
 use Rattle.plan_objects.specs.Asks.{AreClaimed, Ask, IsTaken, Joined, Takes, asks_of_source, asks_of_step, found, given, is_met, left, misses, names_of, nearer, nearest, step_asks, unmet}
 use Rattle.plan_objects.proofs.Taking.{missed, nearest_after, nil_both, taken_leaves}
 

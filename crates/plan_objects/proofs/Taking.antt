@@ -3,9 +3,9 @@ use Rattle.std.proofs.Common.{◌≡◌, ◌∙◌, ◌++◌, ◌||◌, ℕ, Boo
 use Rattle.std.proofs.lemmas.Bool.{false_from_ne_true}
 use Rattle.std.proofs.lemmas.Slice.Eq.{bytes_eq-Decides}
 use Rattle.plan_objects.specs.Named.{Claims, HasNone, Named}
-use Rattle.flume_config.specs.declared.plan.SinkPlan.{SinkPlan}
-use Rattle.flume_config.specs.declared.plan.SinkKind.{SinkKind}
-use Rattle.flume_config.specs.declared.plan.SinkKind.TheVariants.{Null, Roll, Avro, Plugin}
+use Rattle.agent_plan.specs.declared.plan.SinkPlan.{SinkPlan}
+use Rattle.agent_plan.specs.declared.plan.SinkKind.{SinkKind}
+use Rattle.agent_plan.specs.declared.plan.SinkKind.TheVariants.{Null, Roll, Avro, Plugin}
 use Rattle.plan_objects.specs.Asks.{AreTaken, HasObject, HaveObjects, IsTaken, asked, found, is_left, is_met, left, misses, names_of, nearer, sink_asks, unmet, without}
 
 same_name : (a b : List ℕ) → a ≡ b → bytes_eq a b ≡ true

@@ -2,13 +2,13 @@
 use Rattle.std.specs.Prelude.{◌≡◌, ◌++◌, ℕ, Bool, true, false, min, not, List, [], ◌∷◌, flat_map, fold, map, if◌then◌else◌, Option, Some, None, bytes_eq, string_bytes}
 use Rattle.std.specs.List.{list_any}
 use Rattle.plan_objects.specs.Named.{Claims, Named}
-use Rattle.flume_config.specs.declared.plan.Plan.{Plan}
-use Rattle.flume_config.specs.declared.plan.SourcePlan.{SourcePlan}
-use Rattle.flume_config.specs.declared.plan.StepPlan.{StepPlan}
-use Rattle.flume_config.specs.declared.plan.StepPlan.TheVariants as step
-use Rattle.flume_config.specs.declared.plan.SinkPlan.{SinkPlan}
-use Rattle.flume_config.specs.declared.plan.SinkKind.{SinkKind}
-use Rattle.flume_config.specs.declared.plan.SinkKind.TheVariants.{Null, Roll, Avro, Plugin}
+use Rattle.agent_plan.specs.declared.plan.Plan.{Plan}
+use Rattle.agent_plan.specs.declared.plan.SourcePlan.{SourcePlan}
+use Rattle.agent_plan.specs.declared.plan.StepPlan.{StepPlan}
+use Rattle.agent_plan.specs.declared.plan.StepPlan.TheVariants as step
+use Rattle.agent_plan.specs.declared.plan.SinkPlan.{SinkPlan}
+use Rattle.agent_plan.specs.declared.plan.SinkKind.{SinkKind}
+use Rattle.agent_plan.specs.declared.plan.SinkKind.TheVariants.{Null, Roll, Avro, Plugin}
 use Rattle.plan_objects.specs.declared.handed.HandedIn.{HandedIn}
 use Rattle.plan_objects.specs.declared.claim.ClaimRefused.{ClaimRefused}
 use Rattle.plan_objects.specs.declared.claim.ClaimRefused.TheVariants.{Missing, NoMemory}

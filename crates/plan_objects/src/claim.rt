@@ -6,7 +6,7 @@ ghost use Rattle.plan_objects.specs.Asks.{asked, found, lacking, misses, names_o
 
 use crate::handed::HandedIn;
 use crate::steps::{claim_sources, nearer};
-use flume_config::{Plan, SinkKind, SinkPlan};
+use agent_plan::{Plan, SinkKind, SinkPlan};
 use std::alloc::Global;
 
 /// The objects that a plan asks for.

@@ -4,7 +4,7 @@ ghost use Rattle.std.specs.Vec.{vec_capacity};
 ghost use Rattle.plan_objects.specs.Asks.{Joined, asks_of_source, asks_of_step, has_asks, names_of, nearer, nearest, step_asks};
 
 use crate::handed::HandedIn;
-use flume_config::{SourcePlan, StepPlan};
+use agent_plan::{SourcePlan, StepPlan};
 
 /// The nearer of two lines.
 pub(crate) fn nearer(first: Option<u32>, line: u32) -> Option<u32>

@@ -11,8 +11,8 @@ use Rattle.sink_worker.specs.declared.worker.SinkWorker.{SinkWorker}
 use Rattle.source_worker.specs.declared.worker.ListenWorker.{ListenWorker}
 use Rattle.line_worker.specs.declared.worker.LineWorker.{LineWorker}
 use Rattle.grouped_sinks.specs.declared.row.SinkRow.{SinkRow}
-use Rattle.agent_channels.specs.declared.opened.OpenedChannel.{OpenedChannel}
-use Rattle.agent_channels.specs.declared.wish.ChannelWish.{ChannelWish}
+use Rattle.channel_wishes.specs.declared.opened.OpenedChannel.{OpenedChannel}
+use Rattle.channel_wishes.specs.declared.wish.ChannelWish.{ChannelWish}
 use Rattle.run_tracks.specs.Deals.{Deals, DealsEach, Draws, hand_at}
 use Rattle.run_tracks.specs.Dealt.{Owner}
 use Rattle.run_tracks.proofs.Handing.{one_left}

@@ -19,9 +19,9 @@ use Rattle.line_worker.specs.Workers.{CanServe}
 use Rattle.line_worker.specs.declared.worker.LineWorker.{LineWorker}
 use Rattle.two_channels.specs.Shares.{table_of}
 use Rattle.two_channels.specs.declared.shared.EitherShared.{EitherShared}
-use Rattle.agent_channels.specs.Several.{WereOpened}
-use Rattle.agent_channels.specs.declared.opened.OpenedChannel.{OpenedChannel}
-use Rattle.agent_channels.specs.declared.wish.ChannelWish.{ChannelWish}
+use Rattle.channel_wishes.specs.Opened.{WereOpened}
+use Rattle.channel_wishes.specs.declared.opened.OpenedChannel.{OpenedChannel}
+use Rattle.channel_wishes.specs.declared.wish.ChannelWish.{ChannelWish}
 use Rattle.agent_drafts.specs.Fits.{IsFit}
 use Rattle.grouped_sinks.specs.declared.row.SinkRow.{SinkRow}
 use Rattle.run_tracks.specs.Deals.{count_of, hand_at}

@@ -17,10 +17,10 @@ use Rattle.run_tracks.specs.Dealing.{AreDealtBut, IsWith}
 use Rattle.run_tracks.specs.Homes.{AreHomes, IsAt}
 use Rattle.run_tracks.specs.Told.{IsNew}
 use Rattle.run_tracks.proofs.Dealing.{begins}
-use Rattle.agent_channels.specs.Openings.{HostTold, IsOpened}
-use Rattle.agent_channels.specs.Several.{AreOpened}
-use Rattle.agent_channels.specs.declared.opened.OpenedChannel.{OpenedChannel}
-use Rattle.agent_channels.specs.declared.wish.ChannelWish.{ChannelWish}
+use Rattle.channel_wishes.specs.Openings.{HostTold, IsOpened}
+use Rattle.channel_wishes.specs.Opened.{AreOpened}
+use Rattle.channel_wishes.specs.declared.opened.OpenedChannel.{OpenedChannel}
+use Rattle.channel_wishes.specs.declared.wish.ChannelWish.{ChannelWish}
 use Rattle.run_settling.specs.Draining.{HasOwn}
 use Rattle.run_staff.proofs.Owning.{first_own}
 

@@ -1,20 +1,20 @@
 -- The workers of a plan's channels on disks: their channels are wanted in folders, and are on disks once they are opened.
-use Rattle.std.proofs.Common.{◌≡◌, ◌∙◌, ◌<◌, ◌+◌, ◌++◌, ℕ, zero, suc, List, [], ◌∷◌, All, length, map, get_or, Option, Some, None, refl, sym, ap, subst, arith}
+use Rattle.std.proofs.Common.{◌≡◌, ◌<◌, ◌+◌, ◌++◌, ℕ, zero, suc, List, [], ◌∷◌, All, length, map, get_or, Option, Some, None, refl, sym, subst, arith}
 use Rattle.std.specs.List.{AllByRecursion}
 use Rattle.std.proofs.lemmas.List.Elements.{All-from_recursion, recursion_from_All}
 use Rattle.shared_channel.specs.Passes.{Known}
 use Rattle.keep_worker.specs.declared.worker.KeepWorker.{KeepWorker}
 use Rattle.two_channels.specs.Shares.{IsDisk}
 use Rattle.two_channels.specs.declared.shared.EitherShared.{EitherShared}
-use Rattle.agent_channels.specs.Openings.{HostTold, IsOfKind}
-use Rattle.agent_channels.specs.Several.{AreOpened}
-use Rattle.agent_channels.specs.declared.opened.OpenedChannel.{OpenedChannel}
-use Rattle.agent_channels.specs.declared.wish.ChannelPlace.{ChannelPlace}
-use Rattle.agent_channels.specs.declared.wish.ChannelPlace.TheVariants.{Folder, Memory}
-use Rattle.agent_channels.specs.declared.wish.ChannelWish.{ChannelWish}
-use Rattle.flume_config.specs.declared.plan.ChannelKind.{ChannelKind}
-use Rattle.flume_config.specs.declared.plan.ChannelKind.TheVariants.{File, Memory as InMemory}
-use Rattle.flume_config.specs.declared.plan.ChannelPlan.{ChannelPlan}
+use Rattle.channel_wishes.specs.Openings.{HostTold, IsOfKind}
+use Rattle.channel_wishes.specs.Opened.{AreOpened}
+use Rattle.channel_wishes.specs.declared.opened.OpenedChannel.{OpenedChannel}
+use Rattle.channel_wishes.specs.declared.wish.ChannelPlace.{ChannelPlace}
+use Rattle.channel_wishes.specs.declared.wish.ChannelPlace.TheVariants.{Folder, Memory}
+use Rattle.channel_wishes.specs.declared.wish.ChannelWish.{ChannelWish}
+use Rattle.agent_plan.specs.declared.plan.ChannelKind.{ChannelKind}
+use Rattle.agent_plan.specs.declared.plan.ChannelKind.TheVariants.{File, Memory as InMemory}
+use Rattle.agent_plan.specs.declared.plan.ChannelPlan.{ChannelPlan}
 use Rattle.run_tracks.specs.Places.{Zips}
 use Rattle.run_opening.specs.Keepers.{AreWantedInFolders, InFolder, IsWantedInFolder, Keep, interval_of, keep_if, keep_of, keeps_from, keeps_of}
 use Rattle.run_opening.specs.Staff.{IsKeepOf}

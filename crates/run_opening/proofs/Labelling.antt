@@ -4,7 +4,7 @@ use mathlib.Core.Logic.{dite}
 use native.Mathlib.Decide.{ℕ_discrete}
 use Rattle.std.proofs.lemmas.Bool.{ne_eqb}
 use Rattle.std.proofs.lemmas.List.{length-map, map-append}
-use Rattle.flume_config.specs.declared.plan.ChannelPlan.{ChannelPlan}
+use Rattle.agent_plan.specs.declared.plan.ChannelPlan.{ChannelPlan}
 use Rattle.run_tracks.specs.Deals.{count_of}
 use Rattle.run_tracks.proofs.Handing.{count_joined}
 use Rattle.run_opening.specs.Labels.{AreLabels, Entry, IsLabel, Use, entries_at, entry_of, places_of, user_of}

@@ -6,7 +6,7 @@ use Rattle.flume_host.specs.HandedOut.{HandedOut, endpoint_of}
 use Rattle.flume_host.specs.HostState.{HostState}
 use Rattle.flume_host.specs.Listens.{Endpoint, IsFrom, LinksTold}
 use Rattle.flume_host.specs.Told.{Tells}
-use Rattle.flume_config.specs.declared.plan.SourcePlan.{SourcePlan}
+use Rattle.agent_plan.specs.declared.plan.SourcePlan.{SourcePlan}
 use Rattle.agent_outside.specs.Ends.{AreOfSources, AreOut, ListensAt, come_back, end_at, ends_of}
 use Rattle.agent_outside.specs.Listening.{AllOut, EachFresh, IsFresh, ListenersOpened}
 use Rattle.agent_outside.specs.declared.listener.SourceListener.{SourceListener}

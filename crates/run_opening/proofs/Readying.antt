@@ -3,24 +3,23 @@ use Rattle.std.proofs.Common.{◌≡◌, ◌∙◌, ◌<◌, ◌≤◌, ◌++◌
 use Rattle.std.proofs.lemmas.List.{length-map}
 use Rattle.std.proofs.lemmas.List.Elements.{All-append, All-head, All-map, All-nil, All-tail, All-weaker}
 use Rattle.flume_host.specs.HostState.{Folders}
-use Rattle.flume_config.specs.declared.plan.ChannelPlan.{ChannelPlan}
-use Rattle.flume_config.specs.declared.plan.Plan.{Plan}
-use Rattle.flume_config.specs.declared.plan.SinkPlan.{SinkPlan}
-use Rattle.flume_config.specs.declared.plan.GroupPlan.{GroupPlan}
+use Rattle.agent_plan.specs.declared.plan.ChannelPlan.{ChannelPlan}
+use Rattle.agent_plan.specs.declared.plan.Plan.{Plan}
+use Rattle.agent_plan.specs.declared.plan.SinkPlan.{SinkPlan}
+use Rattle.agent_plan.specs.declared.plan.GroupPlan.{GroupPlan}
 use Rattle.grouped_sinks.specs.Rows.{AreRows, AreThere, IsOrder, RowsAreApart, places_of}
-use Rattle.plan_laws.specs.Once.{AreDistinct, group_places}
 use Rattle.grouped_sinks.specs.declared.row.SinkRow.{SinkRow}
 use Rattle.grouped_sinks.proofs.Limits.{rows_named, rows_some}
 use Rattle.plan_laws.specs.Limits.{IsFromTo, NumbersAreLimited}
 use Rattle.plan_laws.specs.Names.{GroupsNameWhatIsThere, IsGroupWithin, SinksNameWhatIsThere}
 use Rattle.plan_laws.specs.Once.{SinksStandOnce}
-use Rattle.agent_channels.specs.Closings.{AreOut, IsOutIn}
-use Rattle.agent_channels.specs.Several.{AreOpened, WereOpened}
-use Rattle.agent_channels.specs.Openings.{HostTold}
-use Rattle.agent_channels.specs.declared.opened.OpenedChannel.{OpenedChannel}
-use Rattle.agent_channels.specs.declared.wish.ChannelPlace.{ChannelPlace}
-use Rattle.agent_channels.specs.declared.wish.ChannelPlace.TheVariants.{Folder, Memory}
-use Rattle.agent_channels.specs.declared.wish.ChannelWish.{ChannelWish}
+use Rattle.channel_wishes.specs.Places.{AreOut, IsOutIn}
+use Rattle.channel_wishes.specs.Opened.{AreOpened, WereOpened}
+use Rattle.channel_wishes.specs.Openings.{HostTold}
+use Rattle.channel_wishes.specs.declared.opened.OpenedChannel.{OpenedChannel}
+use Rattle.channel_wishes.specs.declared.wish.ChannelPlace.{ChannelPlace}
+use Rattle.channel_wishes.specs.declared.wish.ChannelPlace.TheVariants.{Folder, Memory}
+use Rattle.channel_wishes.specs.declared.wish.ChannelWish.{ChannelWish}
 use Rattle.agent_outside.specs.declared.listener.SourceListener.{SourceListener}
 use Rattle.run_tracks.specs.Deals.{count_of}
 use Rattle.run_opening.specs.Keepers.{IsWantedInFolder, closes as is_closed}

@@ -7,9 +7,9 @@ use Rattle.std.specs.declared.alloc.Global.{Global}
 use Rattle.std.specs.declared.vec.Vec.{Vec}
 use Rattle.channel_face.specs.declared.replies.Counts.{Counts}
 use Rattle.agent_end.specs.declared.draining.ChannelDrain.{ChannelDrain}
-use Rattle.flume_config.specs.declared.plan.ChannelPlan.{ChannelPlan}
+use Rattle.agent_plan.specs.declared.plan.ChannelPlan.{ChannelPlan}
 use Rattle.grouped_sinks.specs.declared.row.SinkRow.{SinkRow}
-use Rattle.flume_config.specs.declared.plan.SourcePlan.{SourcePlan}
+use Rattle.agent_plan.specs.declared.plan.SourcePlan.{SourcePlan}
 use Rattle.flume_host.specs.HostState.{Folders}
 use Rattle.flume_host.specs.Listens.{Endpoint}
 use Rattle.shared_channel.specs.Passes.{Known}
@@ -17,12 +17,12 @@ use Rattle.two_channels.specs.Shares.{pass_of}
 use Rattle.two_channels.specs.declared.shared.EitherClosed.{EitherClosed}
 use Rattle.two_channels.specs.declared.shared.EitherClosed.TheVariants as closed
 use Rattle.two_channels.specs.declared.shared.EitherShared.{EitherShared}
-use Rattle.agent_channels.specs.Closings.{AreClosedOf, AreOfWishes, AreOut, IsOfPlace}
-use Rattle.agent_channels.specs.declared.opened.OpenedChannel.{OpenedChannel}
-use Rattle.agent_channels.specs.declared.wish.ChannelPlace.{ChannelPlace}
-use Rattle.agent_channels.specs.declared.wish.ChannelPlace.TheVariants.{Memory, Folder}
-use Rattle.agent_channels.specs.declared.wish.ChannelWish.{ChannelWish}
-use Rattle.agent_channels.specs.Several.{ClosedFit}
+use Rattle.channel_wishes.specs.Places.{AreClosedOf, AreOfWishes, AreOut, IsOfPlace}
+use Rattle.channel_wishes.specs.declared.opened.OpenedChannel.{OpenedChannel}
+use Rattle.channel_wishes.specs.declared.wish.ChannelPlace.{ChannelPlace}
+use Rattle.channel_wishes.specs.declared.wish.ChannelPlace.TheVariants.{Memory, Folder}
+use Rattle.channel_wishes.specs.declared.wish.ChannelWish.{ChannelWish}
+use Rattle.channel_wishes.specs.Opened.{ClosedFit}
 use Rattle.run_settling.specs.Draining.{AreDrained}
 use Rattle.run_opening.specs.Lists.{IsEmptyFor, NamesOf}
 use Rattle.run_opening.specs.Opening.{CanBeManned, IsManned}

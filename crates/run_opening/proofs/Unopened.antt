@@ -8,10 +8,10 @@ use Rattle.flume_host.specs.Rolled.{Rolled, opened}
 use Rattle.flume_host.specs.Told.{Tells}
 use Rattle.flume_host.specs.declared.names.NameRefused.{NameRefused}
 use Rattle.flume_host.specs.declared.names.NameRefused.TheVariants.{Failed, NoMemory}
-use Rattle.flume_config.specs.declared.plan.Plan.{Plan}
-use Rattle.flume_config.specs.declared.plan.SinkPlan.{SinkPlan}
+use Rattle.agent_plan.specs.declared.plan.Plan.{Plan}
+use Rattle.agent_plan.specs.declared.plan.SinkPlan.{SinkPlan}
 use Rattle.agent_sinks.specs.declared.sink.AgentSink.{AgentSink}
-use Rattle.agent_channels.specs.Openings.{HostTold}
+use Rattle.channel_wishes.specs.Openings.{HostTold}
 use Rattle.agent_outside.specs.Backs.{Reopened, RollBack, RollsBack, RollsOut, is_among, paths_of, told_of}
 use Rattle.avro_ends.specs.Dialing.{DialTold}
 use Rattle.agent_outside.specs.Dials.{DialersBack, DialsOpened, FailsBy, dials_back, dials_of}

@@ -3,8 +3,8 @@ use Rattle.std.specs.Prelude.{◌≡◌, ◌≤◌, ◌<◌, ℕ, List, [], All,
 use Rattle.shared_channel.specs.Passes.{Known}
 use Rattle.grouped_sinks.specs.declared.row.SinkRow.{SinkRow}
 use Rattle.two_channels.specs.Shares.{table_of}
-use Rattle.agent_channels.specs.declared.opened.OpenedChannel.{OpenedChannel}
-use Rattle.agent_channels.specs.declared.wish.ChannelWish.{ChannelWish}
+use Rattle.channel_wishes.specs.declared.opened.OpenedChannel.{OpenedChannel}
+use Rattle.channel_wishes.specs.declared.wish.ChannelWish.{ChannelWish}
 use Rattle.agent_drafts.specs.Drafts.{TakesLines}
 use Rattle.agent_drafts.specs.Fits.{IsFit}
 use Rattle.run_tracks.specs.Dealt.{AreDealt}

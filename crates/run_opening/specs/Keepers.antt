@@ -1,11 +1,11 @@
 -- The workers of a plan's channels on disks.
 use Rattle.std.specs.Prelude.{◌++◌, ◌<◌, ℕ, suc, List, [], ◌∷◌, All, Bool, false, length, slice_index_or, Option, Some, None}
-use Rattle.agent_channels.specs.declared.wish.ChannelPlace.{ChannelPlace}
-use Rattle.agent_channels.specs.declared.wish.ChannelPlace.TheVariants as place
-use Rattle.agent_channels.specs.declared.wish.ChannelWish.{ChannelWish}
-use Rattle.flume_config.specs.declared.plan.ChannelKind.{ChannelKind}
-use Rattle.flume_config.specs.declared.plan.ChannelKind.TheVariants.{File, Memory}
-use Rattle.flume_config.specs.declared.plan.ChannelPlan.{ChannelPlan}
+use Rattle.channel_wishes.specs.declared.wish.ChannelPlace.{ChannelPlace}
+use Rattle.channel_wishes.specs.declared.wish.ChannelPlace.TheVariants as place
+use Rattle.channel_wishes.specs.declared.wish.ChannelWish.{ChannelWish}
+use Rattle.agent_plan.specs.declared.plan.ChannelKind.{ChannelKind}
+use Rattle.agent_plan.specs.declared.plan.ChannelKind.TheVariants.{File, Memory}
+use Rattle.agent_plan.specs.declared.plan.ChannelPlan.{ChannelPlan}
 use Rattle.run_opening.specs.declared.seats.KeepSeat.{KeepSeat}
 
 -- the interval of a channel's checkpoints, if it is on a disk

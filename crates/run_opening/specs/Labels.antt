@@ -1,10 +1,10 @@
 -- The channels of a run by name, with the workers that use each.
 use Rattle.std.specs.Prelude.{◌≡◌, ◌==◌, ◌+◌, ◌++◌, ℕ, suc, List, [], ◌∷◌, Option, Some, None, codes, flat_map, map, slice_get, String, string_bytes, if◌then◌else◌}
 use Rattle.std.specs.declared.alloc.Global.{Global}
-use Rattle.flume_config.specs.declared.plan.ChannelPlan.{ChannelPlan}
-use Rattle.flume_config.specs.declared.plan.Plan.{Plan}
+use Rattle.agent_plan.specs.declared.plan.ChannelPlan.{ChannelPlan}
+use Rattle.agent_plan.specs.declared.plan.Plan.{Plan}
 use Rattle.grouped_sinks.specs.declared.row.SinkRow.{SinkRow}
-use Rattle.flume_config.specs.declared.plan.SourcePlan.{SourcePlan}
+use Rattle.agent_plan.specs.declared.plan.SourcePlan.{SourcePlan}
 use Rattle.agent_drafts.specs.declared.draft.SourceDraft.{SourceDraft}
 use Rattle.run_tracks.specs.Deals.{count_of}
 use Rattle.run_tracks.specs.Dealt.{Owner}

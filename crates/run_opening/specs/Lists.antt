@@ -4,11 +4,11 @@ use Rattle.std.specs.Vec.{vec_capacity}
 use Rattle.std.specs.declared.alloc.Global.{Global}
 use Rattle.std.specs.declared.vec.Vec.{Vec}
 use Rattle.channel_face.specs.declared.replies.Counts.{Counts}
-use Rattle.flume_config.specs.declared.plan.ChannelPlan.{ChannelPlan}
+use Rattle.agent_plan.specs.declared.plan.ChannelPlan.{ChannelPlan}
 use Rattle.run_opening.specs.declared.lists.ChannelLists.{ChannelLists}
 use Rattle.run_opening.specs.declared.lists.WorkerLists.{WorkerLists}
 use Rattle.run_opening.specs.declared.opening.Room.{Room}
-use Rattle.flume_config.specs.declared.plan.Plan.{Plan}
+use Rattle.agent_plan.specs.declared.plan.Plan.{Plan}
 use Rattle.run_settling.specs.declared.settling.Settled.{Settled}
 
 -- a list is empty, and has room for so many

@@ -3,8 +3,8 @@ use Rattle.std.specs.Prelude.{◌≡◌, ◌≤◌, List, All, length, map}
 use Rattle.grouped_sinks.specs.declared.row.SinkRow.{SinkRow}
 use Rattle.shared_channel.specs.Passes.{Known}
 use Rattle.two_channels.specs.Shares.{table_of}
-use Rattle.agent_channels.specs.Several.{WereOpened}
-use Rattle.agent_channels.specs.declared.opened.OpenedChannel.{OpenedChannel}
+use Rattle.channel_wishes.specs.Opened.{WereOpened}
+use Rattle.channel_wishes.specs.declared.opened.OpenedChannel.{OpenedChannel}
 use Rattle.agent_drafts.specs.Drafts.{TakesLines}
 use Rattle.run_tracks.specs.Dealt.{AreDealt}
 use Rattle.run_tracks.specs.Homes.{AreHomes}

@@ -6,18 +6,18 @@ use Rattle.flume_host.specs.Listens.{Endpoint, IsFrom, LinksTold}
 use Rattle.flume_host.specs.Rolled.{Rolled}
 use Rattle.flume_host.specs.Told.{Tells}
 use Rattle.flume_host.specs.declared.names.NameRefused.{NameRefused}
-use Rattle.flume_config.specs.declared.plan.Plan.{Plan}
-use Rattle.flume_config.specs.declared.plan.SourcePlan.{SourcePlan}
+use Rattle.agent_plan.specs.declared.plan.Plan.{Plan}
+use Rattle.agent_plan.specs.declared.plan.SourcePlan.{SourcePlan}
 use Rattle.agent_sinks.specs.declared.sink.AgentSink.{AgentSink}
 use Rattle.avro_ends.specs.Dialing.{DialTold}
-use Rattle.agent_channels.specs.Openings.{HostTold}
+use Rattle.channel_wishes.specs.Openings.{HostTold}
 use Rattle.agent_outside.specs.Backs.{Reopened}
 use Rattle.agent_outside.specs.Dials.{DialsOpened, FailsBy, dials_of}
 use Rattle.agent_outside.specs.Ends.{ListenersBack, come_back, end_at}
 use Rattle.agent_outside.specs.Listening.{CameUnused, ListenersOpened}
 use Rattle.agent_outside.specs.Sinks.{AreBoxed, SinksOpened, folders_of}
 use Rattle.agent_outside.specs.declared.listener.SourceListener.{SourceListener}
-use Rattle.flume_config.specs.declared.plan.GroupPlan.{GroupPlan}
+use Rattle.agent_plan.specs.declared.plan.GroupPlan.{GroupPlan}
 use Rattle.grouped_sinks.specs.Picks.{AreDealt, AreNewRunners}
 use Rattle.grouped_sinks.specs.declared.row.SinkRow.{SinkRow}
 use Rattle.grouped_sinks.specs.declared.runner.Runner.{Runner}

@@ -6,9 +6,9 @@ use Rattle.flume_host.specs.HostState.{HostState}
 use Rattle.flume_host.specs.declared.names.NameRefused.{NameRefused}
 use Rattle.flume_host.specs.declared.names.NameRefused.TheVariants.{Failed, NoMemory}
 use Rattle.prop_text.specs.Pairs.{Pair}
-use Rattle.flume_config.specs.Plans.{Plans}
-use Rattle.flume_config.specs.declared.plan.ChannelPlan.{ChannelPlan}
-use Rattle.flume_config.specs.declared.plan.Plan.{Plan}
+use Rattle.agent_plan.specs.Plans.{Plans}
+use Rattle.agent_plan.specs.declared.plan.ChannelPlan.{ChannelPlan}
+use Rattle.agent_plan.specs.declared.plan.Plan.{Plan}
 use Rattle.grouped_sinks.specs.declared.row.SinkRow.{SinkRow}
 use Rattle.agent_words.specs.declared.error.RunError.{RunError}
 use Rattle.agent_words.specs.declared.error.RunError.TheVariants as errors

@@ -1,11 +1,11 @@
 -- What channels a run wants.
 use Rattle.std.specs.Prelude.{◌≡◌, ◌<◌, ℕ, List, length, slice_index_or, string_bytes}
-use Rattle.agent_channels.specs.declared.wish.ChannelPlace.{ChannelPlace}
-use Rattle.agent_channels.specs.declared.wish.ChannelPlace.TheVariants.{Folder, Memory}
-use Rattle.agent_channels.specs.declared.wish.ChannelWish.{ChannelWish}
-use Rattle.flume_config.specs.declared.plan.ChannelKind.{ChannelKind}
-use Rattle.flume_config.specs.declared.plan.ChannelKind.TheVariants.{File, Memory as InMemory}
-use Rattle.flume_config.specs.declared.plan.ChannelPlan.{ChannelPlan}
+use Rattle.channel_wishes.specs.declared.wish.ChannelPlace.{ChannelPlace}
+use Rattle.channel_wishes.specs.declared.wish.ChannelPlace.TheVariants.{Folder, Memory}
+use Rattle.channel_wishes.specs.declared.wish.ChannelWish.{ChannelWish}
+use Rattle.agent_plan.specs.declared.plan.ChannelKind.{ChannelKind}
+use Rattle.agent_plan.specs.declared.plan.ChannelKind.TheVariants.{File, Memory as InMemory}
+use Rattle.agent_plan.specs.declared.plan.ChannelPlan.{ChannelPlan}
 use Rattle.run_tracks.specs.Deals.{count_of}
 
 -- it keeps its events where the plan says

@@ -1,6 +1,6 @@
 // The workers of a run over its channels.
 ghost use Rattle.std.specs.Prelude.{length};
-ghost use Rattle.agent_channels.specs.Several.{WereOpened};
+ghost use Rattle.channel_wishes.specs.Opened.{WereOpened};
 ghost use Rattle.run_tracks.specs.Deals.{hands_of};
 ghost use Rattle.run_opening.specs.Assembled.{AreFit, ArePartsOf, AreUndealt, AreUsed, IsCrew, IsStaff};
 ghost use Rattle.run_opening.specs.Lists.{IsEmptyFor};
@@ -10,8 +10,8 @@ ghost use Rattle.run_opening.specs.Prepared.{uses_of};
 use crate::outside::Outside;
 use crate::seats::{KeepSeat, Seat};
 use crate::staff::{staff_keepers, staff_lines, staff_listeners, staff_sinks};
-use agent_channels::{ChannelWish, OpenedChannel, take_apart};
 use channel_face::Channel;
+use channel_wishes::{ChannelWish, OpenedChannel, take_apart};
 use grouped_sinks::SinkRow;
 use run_staff::{LineEnded, Workers};
 use shared_channel::Pass;

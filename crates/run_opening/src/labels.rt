@@ -6,7 +6,7 @@ ghost use Rattle.run_opening.specs.Lists.{IsEmptyFor};
 
 use crate::channel_end::{ChannelEnd, Worker};
 use crate::seats::{KeepSeat, Seat};
-use flume_config::{ChannelPlan, Plan, SourcePlan};
+use agent_plan::{ChannelPlan, Plan, SourcePlan};
 use grouped_sinks::SinkRow;
 use shared_channel::Pass;
 use std::alloc::{AllocError, Global};

@@ -4,8 +4,8 @@ ghost use Rattle.run_opening.specs.Lists.{HasSettleRoom, HaveChannelLists, HaveW
 
 use crate::channel_end::ChannelEnd;
 use agent_outside::SourceListener;
+use agent_plan::ChannelPlan;
 use channel_face::{Channel, Counts};
-use flume_config::ChannelPlan;
 use run_settling::Settled;
 use run_staff::{LineEnded, Returned, Workers};
 use shared_channel::Pass;

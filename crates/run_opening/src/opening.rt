@@ -12,11 +12,11 @@ use crate::lists::{ChannelLists, WorkerLists, channel_lists, settle_room, worker
 use crate::outside::Outside;
 use crate::preparing::Prepared;
 use crate::streams::take_talks;
-use agent_channels::{ChannelWish, OpenedChannel};
 use agent_outside::SourceListener;
+use agent_plan::Plan;
 use channel_face::Channel;
+use channel_wishes::{ChannelWish, OpenedChannel};
 use crew::DrainWorker;
-use flume_config::Plan;
 use flume_host::Host;
 use grouped_sinks::SinkRow;
 use run_settling::Settled;

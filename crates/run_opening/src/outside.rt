@@ -13,9 +13,9 @@ ghost use Rattle.run_opening.specs.Outside.{AreBack, AreFrom, IsGrouped, IsOutsi
 use agent_outside::{
     SourceListener, give_back_listeners, give_back_sinks, open_listeners, open_sinks,
 };
+use agent_plan::{GroupPlan, Plan, SourcePlan};
 use agent_sinks::AgentSink;
 use avro_ends::{AvroSink, HasDialer};
-use flume_config::{GroupPlan, Plan, SourcePlan};
 use flume_host::{Host, NameRefused, Random, RollDir};
 use grouped_sinks::{Frame, Runner, SinkRow, group_sinks};
 use plug_in::EventSink;

@@ -6,11 +6,11 @@ ghost use Rattle.run_opening.specs.Prepared.{IsDrafted, IsPlanned, IsPrepared, I
 use crate::labels::{ChannelLabel, labels_of};
 use crate::seats::{KeepSeat, Seat, closes_of, keep_seats_of, seats_of};
 use crate::wishes::{uses_of, wishes_of};
-use agent_channels::ChannelWish;
 use agent_drafts::{Drafts, draft_sources, drafts_can_serve};
 use agent_outside::{listening_places, names_of};
+use agent_plan::Plan;
 use agent_words::RunError;
-use flume_config::Plan;
+use channel_wishes::ChannelWish;
 use flume_host::{Host, NameRefused};
 use grouped_sinks::SinkRow;
 use std::alloc::{AllocError, Global};

@@ -4,7 +4,7 @@ ghost use Rattle.run_opening.specs.Keepers.{closes, interval_of, keep_of, keeps_
 ghost use Rattle.run_opening.specs.Staff.{IsRoomy};
 
 use agent_drafts::SourceDraft;
-use flume_config::{ChannelKind, ChannelPlan};
+use agent_plan::{ChannelKind, ChannelPlan};
 use flume_host::Host;
 use shared_channel::Pass;
 use std::alloc::{AllocError, Global};

@@ -6,9 +6,9 @@ ghost use Rattle.run_opening.specs.Staff.{seat_channels};
 ghost use Rattle.run_opening.specs.Wishes.{AreWishes, IsFileOf, IsPlaceOf, IsWish};
 
 use crate::seats::{KeepSeat, Seat};
-use agent_channels::{ChannelPlace, ChannelWish};
+use agent_plan::{ChannelKind, ChannelPlan};
 use channel_face::Limits;
-use flume_config::{ChannelKind, ChannelPlan};
+use channel_wishes::{ChannelPlace, ChannelWish};
 use grouped_sinks::SinkRow;
 use std::alloc::{AllocError, Global};
 

@@ -1,5 +1,5 @@
 -- Passes at home that go on while channels are kept, mended and counted.
-use Rattle.std.proofs.Common.{◌≡◌, ◌<◌, ℕ, List, Bool, Ok, true, false, length, get_or, refl, sym, subst}
+use Rattle.std.proofs.Common.{◌≡◌, ◌<◌, ℕ, List, Bool, Ok, false, length, get_or, refl, sym, subst}
 use Rattle.channel_face.specs.History.{Opening, Step}
 use Rattle.channel_face.specs.Machine.{State}
 use Rattle.shared_channel.specs.Passes.{Known}
@@ -7,7 +7,6 @@ use Rattle.shared_channel.specs.Ports.{Later}
 use Rattle.channel_lock.specs.Views.{saw}
 use Rattle.channel_lock.proofs.Histories.{begins_self}
 use Rattle.run_settling.specs.Draining.{GoesOn, under}
-use Rattle.two_channels.specs.declared.shared.EitherShared.{EitherShared}
 use Rattle.run_working.specs.Wholes.{CountsAreSilent, IsSilent, KeepsAreSilent, MendsAreSilent}
 use Rattle.run_settling.proofs.GoingOn.{kept_go_on, kept_later, mended_go_on}
 use Rattle.run_working.proofs.Silence.{silent_under}

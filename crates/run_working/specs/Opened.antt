@@ -1,8 +1,5 @@
 -- Workers that got the ports of their channels.
-use Rattle.std.specs.Prelude.{◌≡◌, ◌≤◌, List, [], length, slice_index_or}
-use Rattle.std.specs.Vec.{vec_capacity}
-use Rattle.std.specs.declared.alloc.Global.{Global}
-use Rattle.std.specs.declared.vec.Vec.{Vec}
+use Rattle.std.specs.Prelude.{◌≡◌, List, slice_index_or}
 use Rattle.shared_channel.specs.Passes.{Known}
 use Rattle.sink_worker.specs.declared.worker.SinkWorker.{SinkWorker}
 use Rattle.keep_worker.specs.declared.worker.KeepWorker.{KeepWorker}

@@ -1,5 +1,5 @@
 -- The lines on links where the histories of their channels are undisturbed.
-use Rattle.std.proofs.Common.{inl, inr, ◌≡◌, ◌∙◌, ◌∷◌, [], ℕ, List, Option, Some, None, Result, Ok, Err, Bool, true, false, refl, sym, ap, subst}
+use Rattle.std.proofs.Common.{inl, inr, ◌∷◌, [], ℕ, List, Option, Some, None, Result, Ok, Err, Bool, true, false, ap, subst}
 use Rattle.std.specs.List.{AllByRecursion}
 use Rattle.event_core.specs.Content.{Content}
 use Rattle.channel_face.specs.declared.replies.FaceRefused.{FaceRefused}
@@ -8,10 +8,9 @@ use Rattle.selectors.specs.declared.selector.Selector.{Selector}
 use Rattle.source_put.specs.Chains.{Meaning}
 use Rattle.source_put.specs.Into.{Into}
 use Rattle.source_put.specs.declared.chain.HostNames.{HostNames}
-use Rattle.source_put.specs.declared.intake.Verdict.{Verdict}
 use Rattle.netcat_source.specs.Into.{TakesAll}
 use Rattle.netcat_source.specs.Judged.{Judged}
-use Rattle.source_worker.specs.Rounds.{Answer, Finds, Found, Makes, MendsIf, Round, Rounds, Serves, Serving, Session, is_due}
+use Rattle.source_worker.specs.Rounds.{Answer, Finds, Found, MendsIf, Round, Rounds, Serving, Session, is_due}
 use Rattle.source_worker.specs.declared.ends.LinkEnd.{LinkEnd}
 use Rattle.source_worker.specs.declared.ends.LinkEnd.TheVariants as ended
 use Rattle.source_worker.specs.declared.ends.SessionRules.{SessionRules}
@@ -22,7 +21,7 @@ use Rattle.run_tracks.specs.Tracks.{Gave, Track}
 use Rattle.run_tracks.proofs.Staying.{serves_stay}
 use Rattle.run_tracks.proofs.Tracking.{behind_then}
 use Rattle.sound_lines.specs.Links.{AreJudgedSoundly, AreSoundRounds, IsSoundFind, IsSoundSession, LinksAreSound}
-use Rattle.sound_lines.specs.Sound.{AreCalled, HasEnded, IsCalm, IsSound}
+use Rattle.sound_lines.specs.Sound.{AreCalled, HasEnded, IsCalm}
 use Rattle.sound_lines.proofs.Lines.{AllRun, Line, Rows, Runs, all_run, called, line_sound, rows_none, runs_before, sound_behind}
 
 -- where the later track runs, so does the earlier one

@@ -32,12 +32,12 @@ use Rattle.run_tracks.specs.Closes.{IsClosed}
 use Rattle.run_tracks.specs.Dealt.{HasNumber, IsOwned, Owner}
 use Rattle.run_tracks.specs.Told.{IsNew}
 use Rattle.agent_channels.specs.Closings.{DiskBack, back_of, backs_of, faults_of}
-use Rattle.agent_channels.specs.Openings.{Begins, HostTold, IsOfKind}
-use Rattle.agent_channels.specs.Several.{AreOpened}
-use Rattle.agent_channels.specs.declared.opened.OpenedChannel.{OpenedChannel}
-use Rattle.agent_channels.specs.declared.wish.ChannelPlace.{ChannelPlace}
-use Rattle.agent_channels.specs.declared.wish.ChannelPlace.TheVariants.{Folder, Memory}
-use Rattle.agent_channels.specs.declared.wish.ChannelWish.{ChannelWish}
+use Rattle.channel_wishes.specs.Openings.{Begins, HostTold, IsOfKind}
+use Rattle.channel_wishes.specs.Opened.{AreOpened}
+use Rattle.channel_wishes.specs.declared.opened.OpenedChannel.{OpenedChannel}
+use Rattle.channel_wishes.specs.declared.wish.ChannelPlace.{ChannelPlace}
+use Rattle.channel_wishes.specs.declared.wish.ChannelPlace.TheVariants.{Folder, Memory}
+use Rattle.channel_wishes.specs.declared.wish.ChannelWish.{ChannelWish}
 use Rattle.sound_lines.specs.Undisturbed.{AreFair, IsUndisturbed}
 use Rattle.sound_lines.proofs.Fair.{AreFairOwn, fair_of}
 use Rattle.sound_lines.proofs.Faults.{NoneBreaks, none_breaks}

@@ -1,8 +1,8 @@
 // Laws of what a run answers where nothing failed. These functions do nothing: each states a law.
 ghost use Rattle.std.specs.Prelude.{List, Option};
-ghost use Rattle.agent_channels.specs.Openings.{HostTold};
+ghost use Rattle.channel_wishes.specs.Openings.{HostTold};
 ghost use Rattle.agent_end.specs.declared.ends.RunEnds.{RunEnds};
-ghost use Rattle.flume_config.specs.declared.plan.Plan.{Plan};
+ghost use Rattle.agent_plan.specs.declared.plan.Plan.{Plan};
 ghost use Rattle.line_worker.specs.Workers.{talk_of};
 ghost use Rattle.sink_worker.specs.Rounds.{told};
 ghost use Rattle.source_worker.specs.Workers.{heard_of};

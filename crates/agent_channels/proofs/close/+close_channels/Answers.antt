@@ -3,10 +3,11 @@ use Rattle.std.proofs.lemmas.List.{length-append, length-map}
 use Rattle.shared_channel.specs.Passes.{Known}
 use Rattle.two_channels.specs.Shares.{pass_of}
 use Rattle.two_channels.specs.declared.shared.EitherClosed.{EitherClosed}
-use Rattle.agent_channels.specs.Openings.{HostTold}
-use Rattle.agent_channels.specs.Closings.{AreOfWishes, DiskBack, DisksBack, back_of, backs_of}
+use Rattle.channel_wishes.specs.Openings.{HostTold}
+use Rattle.channel_wishes.specs.Places.{AreOfWishes}
+use Rattle.agent_channels.specs.Closings.{DiskBack, DisksBack, back_of, backs_of}
 use Rattle.agent_channels.proofs.Backing.{back_none, back_then, backs_none, backs_split, of_later, of_some, of_split}
-use Rattle.agent_channels.proofs.Opening.{gained_last, gained_none}
+use Rattle.channel_wishes.proofs.Gaining.{gained_last, gained_none}
 use Rattle.agent_channels.proofs.close.+close_channels.Goals as goal
 
 pub unreachable-requires : goal.unreachable-requires

@@ -1,7 +1,8 @@
 use Rattle.std.proofs.Common.{refl, sym, subst}
 use Rattle.two_channels.specs.declared.shared.EitherClosed.{EitherClosed}
-use Rattle.agent_channels.specs.Openings.{HostTold}
-use Rattle.agent_channels.specs.Closings.{DisksBack, IsOfPlace, back_of, disk_back}
+use Rattle.channel_wishes.specs.Openings.{HostTold}
+use Rattle.channel_wishes.specs.Places.{IsOfPlace}
+use Rattle.agent_channels.specs.Closings.{DisksBack, back_of, disk_back}
 use Rattle.agent_channels.proofs.Backing.{back_none}
 use Rattle.agent_channels.proofs.close.give_back.Goals as goal
 

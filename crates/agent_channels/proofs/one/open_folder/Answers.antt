@@ -1,7 +1,7 @@
 use Rattle.std.proofs.Common.{Option, inl, inr, refl, sym, subst}
 use Rattle.flume_host.specs.Told.{Told}
 use Rattle.flume_host.proofs.Folders.{but_between}
-use Rattle.agent_channels.specs.Openings.{BeginsOnDisk, Fails, IsFresh}
+use Rattle.channel_wishes.specs.Openings.{BeginsOnDisk, Fails, IsFresh}
 use Rattle.agent_channels.proofs.Opening.{back_state, hands_none, same_state}
 use Rattle.agent_channels.proofs.one.open_folder.Goals as goal
 

@@ -3,7 +3,7 @@ use Rattle.std.proofs.lemmas.Result.{IfOk-weaker}
 use Rattle.channel_face.specs.History.{Opening}
 use Rattle.channel_face.specs.Machine.{State}
 use Rattle.txn_core.specs.Counted.{StandsAs}
-use Rattle.agent_channels.specs.Openings.{in_memory}
+use Rattle.channel_wishes.specs.Openings.{in_memory}
 use Rattle.agent_channels.proofs.one.open_in_memory.Goals as goal
 
 pub share_in_memory-requires : goal.share_in_memory-requires

@@ -1,4 +1,4 @@
-use Rattle.agent_channels.specs.Openings.{in_memory}
+use Rattle.channel_wishes.specs.Openings.{in_memory}
 use Rattle.agent_channels.proofs.one.open_in_memory.Given as goal
 
 abbrev pub ghost-share_in_memory : goal.ghost-share_in_memory

@@ -4,7 +4,7 @@ use Rattle.channel_writing.specs.Folders.{IsRefused}
 use Rattle.file_channel.specs.Stands.{opened_as}
 use Rattle.shared_channel.specs.Passes.{new_passes}
 use Rattle.two_channels.specs.Shares.{table_of}
-use Rattle.agent_channels.specs.Openings.{ClosesAtOnce}
+use Rattle.channel_wishes.specs.Openings.{ClosesAtOnce}
 use Rattle.agent_channels.proofs.Opening.{tells_still}
 use Rattle.agent_channels.proofs.one.open_on_disk_by.Goals as goal
 

@@ -1,7 +1,7 @@
 use Rattle.std.proofs.Common.{refl, sym, subst}
 use Rattle.std.proofs.lemmas.Result.{IfErr-weaker}
-use Rattle.agent_channels.specs.Openings.{Refuses}
-use Rattle.agent_channels.specs.declared.wish.ChannelPlace.{ChannelPlace}
+use Rattle.channel_wishes.specs.Openings.{Refuses}
+use Rattle.channel_wishes.specs.declared.wish.ChannelPlace.{ChannelPlace}
 use Rattle.agent_channels.proofs.Opening.{ok_of_three, ok_of_two, opened_in_folder, opened_in_memory, refused_in_folder}
 use Rattle.agent_channels.proofs.one.open_one.Goals as goal
 

@@ -1,7 +1,8 @@
 use Rattle.std.proofs.Common.{List, refl, sym, subst}
-use Rattle.agent_channels.specs.Openings.{HostTold}
-use Rattle.agent_channels.specs.Several.{AreUnused, WereOpened}
-use Rattle.agent_channels.specs.declared.opened.OpenedChannel.{OpenedChannel}
+use Rattle.channel_wishes.specs.Openings.{HostTold}
+use Rattle.channel_wishes.specs.Opened.{WereOpened}
+use Rattle.agent_channels.specs.Several.{AreUnused}
+use Rattle.channel_wishes.specs.declared.opened.OpenedChannel.{OpenedChannel}
 use Rattle.agent_channels.proofs.InOrder.{out_later, refuses_marks}
 use Rattle.agent_channels.proofs.several.add_behind.Goals as goal
 

@@ -1,9 +1,9 @@
 use Rattle.std.proofs.Common.{rules, List, subst}
-use Rattle.agent_channels.specs.Openings.{HostTold}
-use Rattle.agent_channels.specs.Closings.{AreOut}
-use Rattle.agent_channels.specs.Several.{WereOpened}
-use Rattle.agent_channels.specs.declared.opened.OpenedChannel.{OpenedChannel}
-use Rattle.agent_channels.specs.declared.wish.ChannelWish.{ChannelWish}
+use Rattle.channel_wishes.specs.Openings.{HostTold}
+use Rattle.channel_wishes.specs.Places.{AreOut}
+use Rattle.channel_wishes.specs.Opened.{WereOpened}
+use Rattle.channel_wishes.specs.declared.opened.OpenedChannel.{OpenedChannel}
+use Rattle.channel_wishes.specs.declared.wish.ChannelWish.{ChannelWish}
 use Rattle.agent_channels.proofs.InOrder.{opened_some, out_last, out_later, unused_marks, unused_none, unused_split, were_split}
 use Rattle.agent_channels.proofs.unused.+give_all_unused.Goals as goal
 

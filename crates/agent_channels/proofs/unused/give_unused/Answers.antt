@@ -1,4 +1,4 @@
-use Rattle.agent_channels.specs.Openings.{HostTold}
+use Rattle.channel_wishes.specs.Openings.{HostTold}
 use Rattle.agent_channels.proofs.Sparing.{unused_back, unused_place}
 use Rattle.agent_channels.proofs.unused.give_unused.Goals as goal
 

@@ -1,5 +1,5 @@
 use Rattle.std.proofs.Common.{◌∙◌}
-use Rattle.flume_config.specs.Values.{seen_pair}
+use Rattle.agent_plan.specs.Values.{seen_pair}
 use Rattle.agent_drafts.proofs.Copying.{seen_more}
 use Rattle.agent_drafts.proofs.copies.copied_mapping.Goals as goal
 

@@ -1,5 +1,5 @@
 use Rattle.std.proofs.Common.{◌≡◌, map, take}
-use Rattle.flume_config.specs.Values.{seen_pair}
+use Rattle.agent_plan.specs.Values.{seen_pair}
 use Rattle.agent_drafts.proofs.copies.copied_mapping.Given as goal
 
 abbrev pub invariant-loop-key : goal.invariant-loop-key

@@ -1,5 +1,5 @@
 use Rattle.std.proofs.Common.{◌∙◌, ◌≤◌, ℕ, drop, length, take, sym, ap, subst}
-use Rattle.flume_config.specs.declared.plan.SourcePlan.{SourcePlan}
+use Rattle.agent_plan.specs.declared.plan.SourcePlan.{SourcePlan}
 use Rattle.plan_objects.specs.Asks.{asks_of_source}
 use Rattle.agent_drafts.proofs.Dealing.{many_there}
 use Rattle.agent_drafts.proofs.Ordered.{draft_there}

@@ -1,5 +1,5 @@
 use Rattle.std.proofs.Common.{◌≤◌, [], ◌∷◌, length, refl, sym, subst}
-use Rattle.flume_config.specs.declared.plan.StepPlan.{StepPlan}
+use Rattle.agent_plan.specs.declared.plan.StepPlan.{StepPlan}
 use Rattle.chain_plan.specs.declared.plan.LinkPlan.TheVariants.{Boxed}
 use Rattle.plan_objects.specs.Asks.{asks_of_step}
 use Rattle.agent_drafts.specs.Drafts.{IsLink}

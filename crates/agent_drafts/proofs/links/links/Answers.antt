@@ -1,6 +1,6 @@
 use Rattle.std.proofs.Common.{◌≡◌, ◌∙◌, ◌+◌, ◌++◌, List, [], ◌∷◌, length, take, sym, ap, subst, arith, append_assoc, length-append}
 use Rattle.std.proofs.lemmas.List.{take_more}
-use Rattle.flume_config.specs.declared.plan.StepPlan.{StepPlan}
+use Rattle.agent_plan.specs.declared.plan.StepPlan.{StepPlan}
 use Rattle.chain_plan.specs.declared.plan.LinkPlan.{LinkPlan}
 use Rattle.agent_drafts.specs.Drafts.{Deals, IsLink}
 use Rattle.agent_drafts.proofs.Dealing.{dealt_more, linked_many, next_asks}

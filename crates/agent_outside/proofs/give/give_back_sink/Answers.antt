@@ -1,7 +1,7 @@
 use Rattle.std.proofs.Common.{◌≡◌, ℕ, List, [], ◌∷◌, None, Option, string_bytes, sym, subst}
 use Rattle.flume_host.specs.HandedOut.{CameBack, IsOut}
 use Rattle.flume_host.specs.Listens.{Endpoint, IsFrom}
-use Rattle.flume_config.specs.declared.plan.SinkKind.{SinkKind}
+use Rattle.agent_plan.specs.declared.plan.SinkKind.{SinkKind}
 use Rattle.avro_ends.specs.Deliveries.{HasBack}
 use Rattle.avro_ends.specs.Dialing.{DialTold, closed_links}
 use Rattle.avro_ends.specs.declared.sink.AvroSink.{AvroSink}

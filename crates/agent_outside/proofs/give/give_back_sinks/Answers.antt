@@ -1,5 +1,5 @@
 use Rattle.std.proofs.Common.{◌≡◌, ◌∙◌, ◌<◌, ℕ, suc, List, [], ◌∷◌, ◌++◌, length, length-append, get_or, sym, ap, subst, arith, rules}
-use Rattle.flume_config.specs.declared.plan.SinkPlan.{SinkPlan}
+use Rattle.agent_plan.specs.declared.plan.SinkPlan.{SinkPlan}
 use Rattle.agent_outside.specs.Backs.{RollBack, RollsBack}
 use Rattle.agent_outside.specs.Dials.{AreDialed, DialersBack, IsDialed, dials_back}
 use Rattle.agent_outside.specs.Ends.{AreOut, ends_of}

@@ -2,7 +2,7 @@ use Rattle.std.proofs.Common.{◌∙◌, length, ℕ, List, take, get_or, sym, a
 use Rattle.std.proofs.lemmas.List.{take_all, take_more}
 use Rattle.std.specs.List.{AllZip}
 use Rattle.flume_host.specs.HostState.{HostState}
-use Rattle.flume_config.specs.declared.plan.SourcePlan.{SourcePlan}
+use Rattle.agent_plan.specs.declared.plan.SourcePlan.{SourcePlan}
 use Rattle.source_put.specs.declared.chain.HostNames.{HostNames}
 use Rattle.agent_outside.specs.Names.{AreTold}
 use Rattle.agent_outside.proofs.Zips.{zip_length, zip_push}

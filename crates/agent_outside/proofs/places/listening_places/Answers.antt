@@ -1,6 +1,6 @@
 use Rattle.std.proofs.Common.{◌∙◌, ℕ, List, ◌++◌, All, sym, ap, subst, replicate, take}
 use Rattle.std.proofs.lemmas.List.{take_all}
-use Rattle.flume_config.specs.declared.plan.SourcePlan.{SourcePlan}
+use Rattle.agent_plan.specs.declared.plan.SourcePlan.{SourcePlan}
 use Rattle.agent_outside.specs.Ends.{ListensAt, listeners_of, places}
 use Rattle.agent_outside.proofs.Placing.{places_listen, places_next}
 use Rattle.agent_outside.proofs.places.listening_places.Goals as goal

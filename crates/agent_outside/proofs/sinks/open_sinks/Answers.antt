@@ -1,6 +1,6 @@
 use Rattle.std.proofs.Common.{◌≡◌, ◌<◌, ◌∙◌, ℕ, [], ◌∷◌, length, get_or, refl, sym, ap, subst, arith, length-append}
 use Rattle.std.specs.Prelude.{reverse}
-use Rattle.flume_config.specs.declared.plan.SinkPlan.{SinkPlan}
+use Rattle.agent_plan.specs.declared.plan.SinkPlan.{SinkPlan}
 use Rattle.agent_outside.specs.Backs.{RollsBack}
 use Rattle.agent_outside.specs.Dials.{AreDialed, DialersBack, DialersOut, DialsOpened, dial_of as dial_by, dials_back}
 use Rattle.agent_outside.specs.Ends.{AreOut, ends_of}

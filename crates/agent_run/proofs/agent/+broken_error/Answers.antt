@@ -1,6 +1,6 @@
 use Rattle.std.proofs.Common.{rules, ◌≡◌, List, ◌∷◌, Bool, Result, sym, subst}
 use Rattle.channel_face.specs.declared.replies.OpenCause.{OpenCause}
-use Rattle.flume_config.specs.declared.plan.ChannelPlan.{ChannelPlan}
+use Rattle.agent_plan.specs.declared.plan.ChannelPlan.{ChannelPlan}
 use Rattle.agent_run.specs.Errors.{IsBrokenError}
 use Rattle.agent_run.proofs.Broken.{broken_later}
 use Rattle.agent_run.proofs.agent.+broken_error.Goals as goal

@@ -10,9 +10,10 @@ use Rattle.avro_ends.specs.declared.sink.AvroSink.{AvroSink}
 use Rattle.file_channel.specs.Stands.{FileState}
 use Rattle.memory_channel.specs.declared.channel.MemoryChannel.{MemoryChannel}
 use Rattle.two_channels.specs.declared.shared.EitherClosed.{EitherClosed}
-use Rattle.agent_channels.specs.Closings.{AreOfWishes, DisksBack, backs_of}
-use Rattle.agent_channels.specs.Openings.{HostTold}
-use Rattle.agent_channels.specs.declared.wish.ChannelWish.{ChannelWish}
+use Rattle.channel_wishes.specs.Places.{AreOfWishes}
+use Rattle.agent_channels.specs.Closings.{DisksBack, backs_of}
+use Rattle.channel_wishes.specs.Openings.{HostTold}
+use Rattle.channel_wishes.specs.declared.wish.ChannelWish.{ChannelWish}
 use Rattle.agent_outside.specs.Backs.{RollsBack}
 use Rattle.agent_outside.specs.Dials.{AreDialed, DialersBack, dials_back}
 use Rattle.agent_outside.specs.Ends.{AreOut, ends_of}

@@ -1,14 +1,15 @@
-use Rattle.std.proofs.Common.{◌≡◌, ◌∙◌, ℕ, List, All, length, refl, sym, ap, subst}
+use Rattle.std.proofs.Common.{◌≡◌, ◌∙◌, ℕ, List, All, refl, sym, ap, subst}
 use Rattle.std.specs.declared.alloc.Global.{Global}
 use Rattle.std.specs.declared.vec.Vec.{Vec}
-use Rattle.flume_config.specs.declared.plan.GroupPlan.{GroupPlan}
+use Rattle.agent_plan.specs.declared.plan.GroupPlan.{GroupPlan}
 use Rattle.agent_outside.specs.Ends.{ListensAt}
 use Rattle.agent_outside.specs.Sinks.{AreOpened}
 use Rattle.agent_outside.proofs.Ordering.{are_opened}
-use Rattle.agent_channels.specs.Closings.{AreOut}
-use Rattle.agent_channels.specs.Openings.{HostTold}
-use Rattle.agent_channels.specs.Several.{AreUnused, WereOpened}
-use Rattle.agent_channels.specs.declared.wish.ChannelWish.{ChannelWish}
+use Rattle.channel_wishes.specs.Places.{AreOut}
+use Rattle.channel_wishes.specs.Openings.{HostTold}
+use Rattle.channel_wishes.specs.Opened.{WereOpened}
+use Rattle.agent_channels.specs.Several.{AreUnused}
+use Rattle.channel_wishes.specs.declared.wish.ChannelWish.{ChannelWish}
 use Rattle.grouped_sinks.specs.Frames.{IsFrameOf}
 use Rattle.grouped_sinks.specs.Picks.{AreNewRunners}
 use Rattle.grouped_sinks.specs.Rows.{AreBelow, Zips, places_of}

@@ -2,7 +2,7 @@ use Rattle.std.proofs.Common.{inr}
 use Rattle.std.specs.Prelude.{reverse}
 use Rattle.agent_words.specs.Statuses.{status_of}
 use Rattle.plan_objects.specs.Asks.{lacking}
-use Rattle.agent_run.proofs.Answering.{is_planned, named, not_planned, of_plan}
+use Rattle.agent_run.proofs.Answering.{named, not_planned, of_plan}
 use Rattle.agent_run.proofs.agent.run_named.Goals as goal
 
 pub returns-in-Ok-clause-ends : goal.returns-in-Ok-clause-ends

@@ -3,12 +3,12 @@ use Rattle.std.specs.Vec.{vec_capacity, with_items}
 use Rattle.std.specs.declared.alloc.Global.{Global}
 use Rattle.std.specs.declared.vec.Vec.{Vec}
 use Rattle.std.proofs.lemmas.List.{with_items_is}
-use Rattle.agent_channels.specs.Closings.{AreOut}
+use Rattle.channel_wishes.specs.Places.{AreOut}
 use Rattle.agent_outside.specs.Ends.{AreOut as EndsOut, ListensAt, end_at}
 use Rattle.agent_outside.specs.Sinks.{AreOpened}
 use Rattle.agent_outside.specs.declared.listener.SourceListener.{SourceListener}
-use Rattle.flume_config.specs.declared.plan.SinkPlan.{SinkPlan}
-use Rattle.flume_config.specs.declared.plan.SourcePlan.{SourcePlan}
+use Rattle.agent_plan.specs.declared.plan.SinkPlan.{SinkPlan}
+use Rattle.agent_plan.specs.declared.plan.SourcePlan.{SourcePlan}
 use Rattle.grouped_sinks.specs.Rows.{IsOrder, places_of}
 use Rattle.flume_host.specs.HandedOut.{HandedOut}
 use Rattle.flume_host.specs.HostState.{Folders, HostState}

@@ -7,7 +7,7 @@ use Rattle.agent_commands.specs.Checked.{Checked}
 use Rattle.agent_run.specs.Named.{AgentEnds}
 use Rattle.agent_run.proofs.Answering.{agent_named, never_one, not_read}
 use Rattle.agent_run.proofs.Commands.{agent_is_no_check, agent_is_no_load, agent_is_no_pipe, none_runs, one_folder, one_load, read_none, read_some}
-use Rattle.agent_channels.specs.Openings.{HostTold}
+use Rattle.channel_wishes.specs.Openings.{HostTold}
 use Rattle.agent_run.specs.PipeRan.{PipeRan}
 use Rattle.agent_run.specs.LoadRan.{LoadRan}
 use Rattle.agent_run.proofs.LoadOff.{not_loaded}

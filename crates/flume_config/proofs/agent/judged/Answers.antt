@@ -3,7 +3,7 @@ use Rattle.std.specs.declared.alloc.AllocError.{AllocError}
 use Rattle.prop_text.specs.Views.{texts}
 use Rattle.plan_judging.specs.declared.findings.Findings.{Findings}
 use Rattle.plan_judging.specs.Candidates.{adds, seen}
-use Rattle.flume_config.specs.Plans.{IsSeen, IsJudged}
+use Rattle.agent_plan.specs.Plans.{IsSeen, IsJudged}
 use Rattle.flume_config.proofs.agent.judged.Goals as goal
 
 pub returns : goal.returns

@@ -1,7 +1,7 @@
 use Rattle.std.proofs.Common.{◌≡◌, List, ℕ, ap, ◌∙◌, subst}
 use Rattle.prop_text.specs.Views.{texts}
 use Rattle.plan_judging.specs.Agents as agents
-use Rattle.flume_config.specs.Values.{Match, SourceNamed, ChannelNamed, SinkNamed, GroupNamed}
+use Rattle.agent_plan.specs.Values.{Match, SourceNamed, ChannelNamed, SinkNamed, GroupNamed}
 use Rattle.flume_config.proofs.agent.plan.Goals as goal
 
 pub returns : goal.returns

@@ -1,5 +1,5 @@
 use Rattle.std.proofs.Common.{Bool, true, false, subst}
-use Rattle.flume_config.specs.Patterns.{IsVerdict}
+use Rattle.agent_plan.specs.Patterns.{IsVerdict}
 use Rattle.plan_judging.proofs.Joins.{add_nothing}
 use Rattle.flume_config.proofs.Asking.{ask_one}
 use Rattle.flume_config.proofs.patterns.ask.Goals as goal

@@ -1,6 +1,6 @@
 use Rattle.std.proofs.Common.{◌≡◌, ◌++◌, map, drop}
 use Rattle.prop_text.specs.Views.{texts}
-use Rattle.flume_config.specs.Values.{priority_of}
+use Rattle.agent_plan.specs.Values.{priority_of}
 use Rattle.flume_config.proofs.planning.priorities.Given as goal
 
 abbrev pub invariant-loop-member : goal.invariant-loop-member

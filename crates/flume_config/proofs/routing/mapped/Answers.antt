@@ -1,6 +1,6 @@
 use Rattle.std.proofs.Common.{◌++◌, arith, refl, map}
 use Rattle.prop_text.specs.Views.{texts}
-use Rattle.flume_config.specs.Values.{mapped_at, seen_pair}
+use Rattle.agent_plan.specs.Values.{mapped_at, seen_pair}
 use Rattle.plan_judging.proofs.CommaSteps.{pair_goes, pairs_end}
 use Rattle.flume_config.proofs.routing.mapped.Goals as goal
 

@@ -1,7 +1,7 @@
 use Rattle.std.proofs.Common.{◌≡◌, ◌++◌, drop, map}
 use Rattle.std.specs.List.{flat_map}
 use Rattle.prop_text.specs.Views.{texts}
-use Rattle.flume_config.specs.Values.{mapped_at, mapped, seen_pair}
+use Rattle.agent_plan.specs.Values.{mapped_at, mapped, seen_pair}
 use Rattle.flume_config.proofs.routing.mapped.Given as goal
 
 abbrev pub invariant-loop-at : goal.invariant-loop-at

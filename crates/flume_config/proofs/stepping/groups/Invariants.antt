@@ -1,4 +1,4 @@
-use Rattle.flume_config.specs.Values.{IsGroup}
+use Rattle.agent_plan.specs.Values.{IsGroup}
 use Rattle.flume_config.proofs.Making.{Makes}
 use Rattle.flume_config.proofs.stepping.groups.Given as goal
 

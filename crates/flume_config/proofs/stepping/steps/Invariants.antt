@@ -1,4 +1,4 @@
-use Rattle.flume_config.specs.Values.{StepNamed}
+use Rattle.agent_plan.specs.Values.{StepNamed}
 use Rattle.flume_config.proofs.Making.{Makes}
 use Rattle.flume_config.proofs.stepping.steps.Given as goal
 

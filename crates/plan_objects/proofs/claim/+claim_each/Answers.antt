@@ -1,5 +1,5 @@
 use Rattle.std.proofs.Common.{rules, ◌≡◌, ◌∙◌, ℕ, List, ◌∷◌, Option, sym, ap}
-use Rattle.flume_config.specs.declared.plan.SinkPlan.{SinkPlan}
+use Rattle.agent_plan.specs.declared.plan.SinkPlan.{SinkPlan}
 use Rattle.plan_objects.specs.Asks.{names_of, nearest, sink_asks}
 use Rattle.plan_objects.proofs.Taking.{first_over}
 use Rattle.plan_objects.proofs.claim.+claim_each.Goals as goal

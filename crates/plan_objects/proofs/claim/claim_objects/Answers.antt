@@ -1,6 +1,6 @@
 use Rattle.std.proofs.Common.{rules, ◌≡◌, List, None, sym, subst}
 use Rattle.std.specs.Prelude.{reverse}
-use Rattle.flume_config.specs.declared.plan.SourcePlan.{SourcePlan}
+use Rattle.agent_plan.specs.declared.plan.SourcePlan.{SourcePlan}
 use Rattle.plan_objects.specs.Named.{Named}
 use Rattle.plan_objects.specs.Asks.{AreTaken, Joined, lacking, names_of, nearest, sink_asks, step_asks, unmet}
 use Rattle.plan_objects.proofs.Claiming.{claimed, claimed_many}

@@ -1,5 +1,5 @@
 use Rattle.std.proofs.Common.{◌≡◌, ◌∙◌, List, None, flat_map, take, sym, ap, subst}
-use Rattle.flume_config.specs.declared.plan.StepPlan.{StepPlan}
+use Rattle.agent_plan.specs.declared.plan.StepPlan.{StepPlan}
 use Rattle.plan_objects.specs.Asks.{Ask, Joined, asks_of_source, asks_of_step, names_of, nearest, step_asks}
 use Rattle.plan_objects.proofs.Claiming.{asks_next, joined_both, nearest_both}
 use Rattle.plan_objects.proofs.steps.claim_sources.Goals as goal

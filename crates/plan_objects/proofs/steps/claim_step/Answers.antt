@@ -1,5 +1,5 @@
 use Rattle.std.proofs.Common.{◌∙◌, ℕ, List, None, Some, sym, ap, subst, append-nil, string_bytes}
-use Rattle.flume_config.specs.declared.plan.StepPlan.{StepPlan}
+use Rattle.agent_plan.specs.declared.plan.StepPlan.{StepPlan}
 use Rattle.plan_objects.specs.Named.{Claims}
 use Rattle.plan_objects.specs.Asks.{Joined, asks_of_step, names_of, nearest}
 use Rattle.plan_objects.proofs.Claiming.{joined_one, nearest_one}

@@ -3,7 +3,7 @@ use Rattle.std.specs.declared.alloc.Global.{Global}
 use Rattle.std.specs.declared.vec.Vec.{Vec}
 use Rattle.shared_channel.specs.Passes.{Known}
 use Rattle.two_channels.specs.declared.shared.EitherShared.{EitherShared}
-use Rattle.agent_channels.specs.declared.opened.OpenedChannel.{OpenedChannel}
+use Rattle.channel_wishes.specs.declared.opened.OpenedChannel.{OpenedChannel}
 use Rattle.run_tracks.specs.Deals.{count_of, hand_at, hands_of}
 use Rattle.run_opening.specs.Assembled.{IsStaff}
 use Rattle.run_opening.specs.Prepared.{uses_of}

@@ -1,5 +1,5 @@
 use Rattle.std.proofs.Common.{rules, List, map, sym, subst, arith}
-use Rattle.flume_config.specs.declared.plan.ChannelPlan.{ChannelPlan}
+use Rattle.agent_plan.specs.declared.plan.ChannelPlan.{ChannelPlan}
 use Rattle.run_opening.specs.Labels.{AreLabels, user_of}
 use Rattle.run_opening.specs.declared.labels.ChannelLabel.{ChannelLabel}
 use Rattle.run_opening.proofs.Labelling.{labels_and}

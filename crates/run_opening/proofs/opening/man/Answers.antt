@@ -3,7 +3,7 @@ use Rattle.run_tracks.proofs.Homing.{zips_length}
 use Rattle.std.specs.declared.alloc.Global.{Global}
 use Rattle.std.specs.declared.vec.Vec.{Vec}
 use Rattle.crew.specs.declared.draining.DrainWorker.{DrainWorker}
-use Rattle.agent_channels.specs.declared.wish.ChannelWish.{ChannelWish}
+use Rattle.channel_wishes.specs.declared.wish.ChannelWish.{ChannelWish}
 use Rattle.run_opening.specs.Keepers.{AreWantedInFolders}
 use Rattle.run_opening.specs.Staff.{IsLineOf, IsListenOf, IsSinkOf}
 use Rattle.run_opening.specs.Streams.{AreTaken}

@@ -1,6 +1,6 @@
 use Rattle.std.proofs.Common.{rules, ◌≡◌, ◌≤◌, ℕ, List, length, subst, arith}
 use Rattle.std.specs.Vec.{vec_capacity}
-use Rattle.flume_config.specs.declared.plan.ChannelPlan.{ChannelPlan}
+use Rattle.agent_plan.specs.declared.plan.ChannelPlan.{ChannelPlan}
 use Rattle.run_opening.specs.Lists.{HasSettleRoom, HaveChannelLists}
 use Rattle.run_opening.proofs.opening.room_of.Goals as goal
 

@@ -1,9 +1,9 @@
 use Rattle.std.proofs.Common.{◌≡◌, ◌∙◌, ℕ, List, None, length, map, take, sym, ap, subst}
 use Rattle.std.specs.Prelude.{reverse}
 use Rattle.flume_host.specs.HostState.{Folders, HostState}
-use Rattle.flume_config.specs.declared.plan.SinkPlan.{SinkPlan}
-use Rattle.flume_config.specs.declared.plan.SourcePlan.{SourcePlan}
-use Rattle.agent_channels.specs.Openings.{HostTold}
+use Rattle.agent_plan.specs.declared.plan.SinkPlan.{SinkPlan}
+use Rattle.agent_plan.specs.declared.plan.SourcePlan.{SourcePlan}
+use Rattle.channel_wishes.specs.Openings.{HostTold}
 use Rattle.agent_outside.specs.Backs.{RollsBack}
 use Rattle.agent_outside.specs.Dials.{DialersBack, DialsOpened, dials_back}
 use Rattle.agent_outside.specs.Ends.{end_at}

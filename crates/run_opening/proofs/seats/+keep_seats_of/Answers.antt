@@ -1,6 +1,6 @@
-use Rattle.std.proofs.Common.{rules, ◌≡◌, ◌∙◌, ◌+◌, ℕ, zero, suc, List, [], ◌∷◌, ◌++◌, length, map, Some, None, Option, refl, sym, ap, arith, Vec, Global, append-nil, append_assoc}
+use Rattle.std.proofs.Common.{rules, ◌≡◌, ◌∙◌, ◌+◌, ℕ, suc, List, [], ◌∷◌, ◌++◌, length, map, Some, None, Option, refl, sym, ap, arith, Vec, Global, append-nil, append_assoc}
 use Rattle.std.proofs.lemmas.List.{map-append}
-use Rattle.flume_config.specs.declared.plan.ChannelPlan.{ChannelPlan}
+use Rattle.agent_plan.specs.declared.plan.ChannelPlan.{ChannelPlan}
 use Rattle.run_opening.specs.Keepers.{Keep, interval_of, keep_if, keep_of, keeps_from, keeps_of}
 use Rattle.run_opening.specs.declared.seats.KeepSeat.{KeepSeat}
 use Rattle.run_opening.proofs.seats.+keep_seats_of.Goals.{in-Some-interval_of+in_ok-push, in_default-interval_of}

@@ -1,5 +1,5 @@
 use Rattle.std.proofs.Common.{List, sym, subst, take, ◌+◌}
-use Rattle.agent_channels.specs.declared.wish.ChannelWish.{ChannelWish}
+use Rattle.channel_wishes.specs.declared.wish.ChannelWish.{ChannelWish}
 use Rattle.run_opening.specs.Wishes.{AreWishes}
 use Rattle.run_opening.proofs.Wishing.{wishes_along}
 use Rattle.run_opening.proofs.wishes.wishes_of.Goals as goal

@@ -1,4 +1,4 @@
-use Rattle.std.proofs.Common.{List, [], ◌∷◌, All, sym, subst}
+use Rattle.std.proofs.Common.{List, All, sym, subst}
 use Rattle.std.proofs.lemmas.List.Elements.{All-push}
 use Rattle.shared_channel.specs.Passes.{Known}
 use Rattle.keep_worker.specs.declared.worker.KeepWorker.{KeepWorker}

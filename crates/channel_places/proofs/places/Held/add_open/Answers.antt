@@ -6,7 +6,7 @@ use Rattle.channel_places.specs.Ends.{one_if_staged}
 use Rattle.channel_places.specs.Looks.{Looks, Places, no_entry, puts_in}
 use Rattle.channel_places.specs.View.{places_of}
 use Rattle.channel_places.proofs.Looking.{begun_looks, begun_within, next_not_open, restaged, rooms_stay}
-use Rattle.channel_places.proofs.Keeping.{keeps_begun, keeps_same}
+use Rattle.channel_places.proofs.Keeping.{keeps_begun}
 use Rattle.channel_places.proofs.places.Held.add_open.Goals as goal
 
 pub begin-requires : goal.begin-requires

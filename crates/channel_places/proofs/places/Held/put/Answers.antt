@@ -1,4 +1,4 @@
-use Rattle.std.proofs.Common.{◌≡◌, ◌∷◌, ◌+◌, ℕ, ap, arith, length, refl, subst, sym}
+use Rattle.std.proofs.Common.{◌∷◌, ℕ, arith, subst, sym}
 use Rattle.event_core.specs.Content.{content}
 use Rattle.open_table.specs.Tables.{HasAt, added, open_at}
 use Rattle.open_table.specs.declared.table.Item.TheVariants.{Put}

@@ -1,5 +1,4 @@
-use Rattle.std.proofs.Common.{◌<◌, ◌^◌, List, length, ap, arith}
-use Rattle.channel_places.specs.Looks.{Places}
+use Rattle.std.proofs.Common.{arith}
 use Rattle.channel_places.proofs.places.Held.ring.Goals as goal
 
 pub returns-clause-few : goal.returns-clause-few

@@ -1,4 +1,4 @@
-use Rattle.std.proofs.Common.{◌≡◌, ◌∙◌, ◌+◌, ◌++◌, ℕ, List, ap, arith, length, length-append, map, refl, subst, sym}
+use Rattle.std.proofs.Common.{◌≡◌, ◌∙◌, ◌+◌, ◌++◌, List, ap, arith, length, length-append, map, subst, sym}
 use Rattle.open_table.specs.Tables.{Listed, listed_of}
 use Rattle.open_table.specs.declared.table.Ended.{Ended}
 use Rattle.event_ring.specs.Slots.{Index, Left}

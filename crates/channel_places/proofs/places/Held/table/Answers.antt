@@ -1,4 +1,4 @@
-use Rattle.std.proofs.Common.{◌≡◌, ◌<◌, ◌^◌, ℕ, ap, arith, refl}
+use Rattle.std.proofs.Common.{◌≡◌, ◌<◌, ◌^◌, ap, arith}
 use Rattle.open_table.specs.Tables.{open_at}
 use Rattle.channel_face.specs.Machine.{entry_of}
 use Rattle.channel_places.specs.Looks.{Numbers, Places}

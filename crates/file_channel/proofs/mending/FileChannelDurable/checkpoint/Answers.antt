@@ -1,4 +1,3 @@
-use Rattle.channel_face.specs.Machine.{settle}
 use Rattle.file_channel.proofs.Kept.{has_laid}
 use Rattle.file_channel.proofs.mending.FileChannelDurable.checkpoint.Goals as goal
 

@@ -1,6 +1,6 @@
 use Rattle.std.proofs.Common.{◌≡◌, ◌++◌, ap, ◌∙◌, codes}
 use Rattle.prop_text.specs.Views.{texts}
-use Rattle.flume_config.specs.Values.{text_at, place_of}
+use Rattle.agent_plan.specs.Values.{text_at, place_of}
 use Rattle.flume_config.proofs.planning.SinkPlanComponentPlan.plan_at.Goals as goal
 
 pub returns : goal.returns

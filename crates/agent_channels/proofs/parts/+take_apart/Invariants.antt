@@ -1,5 +1,0 @@
-use Rattle.std.proofs.Common.{length}
-use Rattle.agent_channels.proofs.parts.+take_apart.Given as goal
-
-abbrev pub decreases-take_apart : goal.decreases-take_apart
-decreases-take_apart g l = length l.channels.items

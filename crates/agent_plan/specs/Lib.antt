@@ -1,0 +1,5 @@
+pub mod Patterns
+pub mod Faults
+pub mod Values
+pub mod Plans
+pub mod Laws

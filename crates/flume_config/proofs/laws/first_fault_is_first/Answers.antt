@@ -1,6 +1,0 @@
-use Rattle.flume_config.specs.Faults.{candidates}
-use Rattle.flume_config.proofs.First.{first_is_first}
-use Rattle.flume_config.proofs.laws.first_fault_is_first.Goals as goal
-
-pub returns : goal.returns
-returns c = λ pairs agent verdicts. first_is_first (candidates pairs agent verdicts).faults

@@ -1,6 +1,0 @@
-use Rattle.flume_config.specs.Faults.{candidates}
-use Rattle.flume_config.proofs.First.{least_is_least}
-use Rattle.flume_config.proofs.laws.least_missing_is_least.Goals as goal
-
-pub returns : goal.returns
-returns c = λ pairs agent verdicts. least_is_least (candidates pairs agent verdicts).missing
