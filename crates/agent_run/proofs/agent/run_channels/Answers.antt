@@ -1,4 +1,5 @@
-use Rattle.std.proofs.Common.{◌≡◌, ◌∙◌, ℕ, List, All, refl, sym, ap, subst}
+use Rattle.std.proofs.Common.{◌≡◌, ◌∙◌, ℕ, List, All, length, refl, sym, ap, subst}
+use Rattle.std.proofs.lemmas.List.{length-map}
 use Rattle.std.specs.declared.alloc.Global.{Global}
 use Rattle.std.specs.declared.vec.Vec.{Vec}
 use Rattle.agent_plan.specs.declared.plan.GroupPlan.{GroupPlan}
@@ -13,6 +14,7 @@ use Rattle.channel_wishes.specs.declared.wish.ChannelWish.{ChannelWish}
 use Rattle.grouped_sinks.specs.Frames.{IsFrameOf}
 use Rattle.grouped_sinks.specs.Picks.{AreNewRunners}
 use Rattle.grouped_sinks.specs.Rows.{AreBelow, Zips, places_of}
+use Rattle.run_opening.specs.Lists.{IsEmptyFor}
 use Rattle.run_opening.specs.Outside.{OutsideRefused, WithPlaces}
 use Rattle.agent_run.specs.Run.{CanListenAt}
 use Rattle.agent_run.proofs.Answering.{outside_at}
@@ -21,6 +23,25 @@ use Rattle.run_opening.proofs.Naming.{given_back}
 use Rattle.agent_run.proofs.Parting.{runners_many}
 use Rattle.run_opening.proofs.Readying.{can_be_manned, groups_there, rows_in_order, still_out}
 use Rattle.agent_run.proofs.agent.run_channels.Goals as goal
+
+pub open_outside-requires-clause-have : goal.open_outside-requires-clause-have
+open_outside-requires-clause-have g c κs within = c.requires.have
+
+pub open_outside-requires-clause-listen : goal.open_outside-requires-clause-listen
+open_outside-requires-clause-listen g c κs within = subst (λ (l : List ℕ). All (ListensAt c.args.plan.now.sources.items) l) (sym c.as_slice-places.ensures.value) c.requires.prepared.listen
+
+pub open_outside-requires-clause-room : goal.open_outside-requires-clause-room
+open_outside-requires-clause-room g c κs within =
+    subst (λ (n : ℕ). IsEmptyFor n c.args.room.listeners) (sym (length-map c.args.prepared.listeners.items (λ seat. seat.draft.source)) ∙ ap length c.requires.prepared.sources ∙ ap length (sym c.as_slice-places.ensures.value)) c.requires.room.listeners
+
+pub group_outside-outside-requires-clause-room : goal.group_outside-outside-requires-clause-room
+group_outside-outside-requires-clause-room g c = c.requires.room.runners
+
+pub run_opened-requires-clause-settle : goal.run_opened-requires-clause-settle
+run_opened-requires-clause-settle g c κs within = c.requires.room.settled
+
+pub run_opened-requires-clause-many : goal.run_opened-requires-clause-many
+run_opened-requires-clause-many g c κs within = c.requires.prepared.wishes.many
 
 pub group_outside-outside-requires-clause-frames : goal.group_outside-outside-requires-clause-frames
 group_outside-outside-requires-clause-frames g c =
