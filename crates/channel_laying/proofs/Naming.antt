@@ -12,7 +12,7 @@ use Rattle.event_core.specs.declared.journal.Entry.{Entry}
 use Rattle.event_core.specs.declared.journal.Entry.TheVariants.{Puts, Takes}
 use Rattle.event_core.proofs.Sizes.{length-u32_bytes, length-u64_bytes}
 use Rattle.record_form.specs.declared.record.Pointer.{Pointer}
-use Rattle.channel_log.specs.Pointers.{PutAt}
+use Rattle.record_form.specs.Pointers.{PutAt}
 use Rattle.checkpoint.specs.declared.place.Next.{Next}
 use Rattle.checkpoint.specs.declared.place.Place.{Place}
 use Rattle.checkpoint.specs.Right.{EventsAre, IsRight, LiveAre, OpenAre}

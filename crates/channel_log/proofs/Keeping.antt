@@ -1,15 +1,10 @@
 -- What a window keeps.
-use Rattle.std.proofs.Common.{inl, inr, ◌⊎◌, ◌≡◌, ◌≤◌, ◌<◌, ◌+◌, ◌-◌, ◌++◌, min, ℕ, zero, suc, List, [], ◌∷◌, length, take, drop, refl, sym, ap, subst, ◌∙◌, arith}
+use Rattle.std.proofs.Common.{inl, inr, ◌⊎◌, ◌≡◌, ◌≤◌, ◌<◌, ◌+◌, ◌-◌, ◌++◌, min, ℕ, List, [], ◌∷◌, length, take, drop, sym, ap, subst, ◌∙◌, arith}
 use Rattle.std.proofs.lemmas.Bool.{cases_lt}
 use Rattle.std.proofs.lemmas.List.{append_assoc, take-append-drop, drop-append-le, drop-drop, drop-take, drop_all, length-drop, length-take, take-append-le, take_all, take_min}
+use Rattle.record_form.proofs.Pointed.{take_take}
 use Rattle.channel_log.specs.PointerLaws.{PieceGrows}
 use Rattle.channel_log.specs.Window.{Covers, HasThere, IsPieceOf, Kept}
-
-pub take_take : (n m : ℕ) (xs : List ℕ) → n ≤ m → take n (take m xs) ≡ take n xs
-take_take zero m xs less = refl
-take_take (suc n) zero xs less = absurd (omega (arith, less))
-take_take (suc n) (suc m) [] less = refl
-take_take (suc n) (suc m) (x ∷ xs) less = ap (λ (l : List ℕ). x ∷ l) (take_take n m xs (omega (arith, less)))
 
 -- a front of a list is as much of it as it is long
 own_length : (n : ℕ) (xs : List ℕ) → take n xs ≡ take (length (take n xs)) xs

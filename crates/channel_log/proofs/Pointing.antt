@@ -1,7 +1,7 @@
 -- What stands at a pointer stays there.
-use Rattle.std.proofs.Common.{◌⊎◌, inl, inr, ◌≡◌, ◌+◌, ◌++◌, ◌∷◌, [], ℕ, List, length, length-append, drop, Option, Some, None, refl, sym, ◌∙◌, ap, subst, append_assoc, arith}
+use Rattle.std.proofs.Common.{◌⊎◌, inl, inr, ◌≡◌, ◌+◌, ◌++◌, ◌∷◌, [], ℕ, List, length, length-append, Option, Some, None, refl, sym, ◌∙◌, ap, subst, append_assoc, arith}
 use Rattle.std.specs.Prelude.{IsSomeAnd}
-use Rattle.std.proofs.lemmas.List.{append-nil, drop_at}
+use Rattle.std.proofs.lemmas.List.{append-nil}
 use Rattle.std.proofs.lemmas.Grind.{flat_map-append}
 use Rattle.flume_host.specs.declared.names.FileName.TheVariants.{Log}
 use Rattle.flume_host.specs.Folder.{Allows, There, stable}
@@ -10,13 +10,14 @@ use Rattle.event_core.specs.Content.{Content, size}
 use Rattle.record_form.specs.declared.record.Pointer.{Pointer}
 use Rattle.record_form.specs.declared.record.Rec.{Rec}
 use Rattle.record_form.specs.declared.record.Rec.TheVariants.{Put, End}
-use Rattle.record_form.specs.Grammar.{Complete, outcome_of}
+use Rattle.record_form.specs.Grammar.{Complete}
 use Rattle.record_form.specs.Record.{HasFields, IsWithinLimits, spelling}
-use Rattle.record_form.proofs.Again.{record-again}
+use Rattle.record_form.proofs.Pointed.{put_read}
 use Rattle.channel_log.specs.Frames.{frame_bytes, header, opened, record_bytes}
 use Rattle.channel_log.specs.Writer.{HasFrames, LacksOrHas}
-use Rattle.channel_log.specs.Pointers.{PutAt, pending_at, settled_part}
-use Rattle.channel_log.specs.PointerLaws.{OneEventStands, PendingStands, PutIsRead, PutStays, StandsInEachImage}
+use Rattle.record_form.specs.Pointers.{PutAt}
+use Rattle.channel_log.specs.Pointers.{pending_at, settled_part}
+use Rattle.channel_log.specs.PointerLaws.{OneEventStands, PendingStands, PutStays, StandsInEachImage}
 
 -- whatever stands after
 pub put_grows : (bytes more : List ℕ) (p : Pointer) (event : Content) → PutAt bytes p event → PutAt (bytes ++ more) p event
@@ -33,15 +34,6 @@ put_grows bytes more p event at = record {
   fields = at.fields;
   limits = at.limits;
 }
-
-pub put_read : PutIsRead
-put_read bytes p event at = (
-  at.txn,
-  ap (λ (l : List ℕ). outcome_of (drop p.at l)) at.split
-      ∙ (ap outcome_of (drop_at at.before (spelling (Put at.txn event) ++ at.behind) p.at at.place)
-      ∙ (record-again (Put at.txn event) at.behind at.fields at.limits
-      ∙ ap (λ (n : ℕ). Complete (Put at.txn event) (n + 13)) at.long)),
-)
 
 same_event : (t u : ℕ) (a b : Content) (m n : ℕ) → Complete (Put t a) m ≡ Complete (Put u b) n → a ≡ b
 same_event t u a b m n same = cc

@@ -10,7 +10,8 @@ use Rattle.record_form.specs.declared.record.Rec.TheVariants.{Put}
 use Rattle.record_form.specs.Grammar.{Complete, outcome_of}
 use Rattle.record_form.specs.Record.{HasFields, IsWithinLimits}
 use Rattle.channel_log.specs.Writer.{LacksOrHas}
-use Rattle.channel_log.specs.Pointers.{PutAt, StandsAt, pending_at, settled_part}
+use Rattle.record_form.specs.Pointers.{PutAt}
+use Rattle.channel_log.specs.Pointers.{StandsAt, pending_at, settled_part}
 use Rattle.channel_log.specs.Window.{IsPieceOf, Kept}
 
 -- What stands at a pointer is read there, with the pointer's length and 13 bytes before the event.

@@ -5,24 +5,13 @@ use Rattle.flume_host.specs.Folder.{There, stable}
 use Rattle.flume_host.specs.Told.{Told}
 use Rattle.event_core.specs.Content.{Content, size}
 use Rattle.record_form.specs.declared.record.Pointer.{Pointer}
+use Rattle.record_form.specs.Pointers.{PutAt}
 use Rattle.record_form.specs.declared.record.Rec.{Rec}
 use Rattle.record_form.specs.declared.record.Rec.TheVariants.{Put}
-use Rattle.record_form.specs.Record.{HasFields, IsWithinLimits, spelling}
 use Rattle.channel_log.specs.Frames.{header, opened, record_bytes}
 use Rattle.channel_log.specs.Writer.{Writer}
 use Rattle.channel_log.specs.declared.pointers.ReadRefused.{ReadRefused}
 use Rattle.channel_log.specs.declared.pointers.ReadRefused.TheVariants.{Damaged, NoMemory, ReadFault}
-
--- A whole PUT of this event stands at the pointer's offset of these bytes, and the event has the pointer's length.
-pub record PutAt (bytes : List ℕ) (p : Pointer) (event : Content) : Type 0 where
-  pub txn : ℕ
-  pub before : List ℕ
-  pub behind : List ℕ
-  pub split : bytes ≡ before ++ (spelling (Put txn event) ++ behind)
-  pub place : length before ≡ p.at
-  pub long : size event ≡ p.length
-  pub fields : HasFields (Put txn event)
-  pub limits : IsWithinLimits (Put txn event)
 
 -- the part of a file that is written before its closed commit byte: no later call changes it
 abbrev pub settled_part : ℕ → ℕ → List (List Rec) → List ℕ

@@ -8,7 +8,7 @@ use Rattle.event_core.specs.Journal.{is_among}
 use Rattle.event_core.specs.declared.journal.Entry.{Entry}
 use Rattle.event_core.specs.declared.journal.Entry.TheVariants.{Puts, Takes}
 use Rattle.record_form.specs.declared.record.Pointer.{Pointer}
-use Rattle.channel_log.specs.Pointers.{PutAt}
+use Rattle.record_form.specs.Pointers.{PutAt}
 use Rattle.checkpoint.specs.Text.{CheckText, FitCounts, Rise}
 
 abbrev pub number_of : {A : Type 0} → ℕ × A → ℕ

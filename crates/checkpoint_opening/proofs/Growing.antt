@@ -12,7 +12,7 @@ use Rattle.event_core.specs.declared.journal.Entry.TheVariants.{Puts, Takes}
 use Rattle.record_form.specs.declared.record.Pointer.{Pointer}
 use Rattle.channel_log.specs.Frames as frames
 use Rattle.channel_log.specs.Frames.{Holds}
-use Rattle.channel_log.specs.Pointers.{PutAt}
+use Rattle.record_form.specs.Pointers.{PutAt}
 use Rattle.channel_replay.specs.declared.line.Line.{Line}
 use Rattle.channel_replay.specs.Recover.{AreLogs, LogFile, file_lines, lines}
 use Rattle.channel_replay.proofs.Lines.{lines-append}

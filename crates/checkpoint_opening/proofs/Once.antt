@@ -10,8 +10,8 @@ use Rattle.event_core.specs.Journal.{Base, is_among}
 use Rattle.event_core.specs.declared.journal.Entry.{Entry}
 use Rattle.event_core.specs.declared.journal.Entry.TheVariants.{Puts, Takes}
 use Rattle.record_form.specs.declared.record.Pointer.{Pointer}
-use Rattle.channel_log.specs.Pointers.{PutAt}
-use Rattle.channel_log.proofs.Pointed.{within}
+use Rattle.record_form.specs.Pointers.{PutAt}
+use Rattle.record_form.proofs.Pointed.{within}
 use Rattle.channel_log.proofs.Pointing.{one_event}
 use Rattle.channel_replay.specs.Marks.{next_txn}
 use Rattle.channel_replay.specs.Recover.{StandsFrom, lines, past_lines, replayed}

@@ -12,7 +12,7 @@ use Rattle.event_core.specs.declared.journal.Entry.TheVariants as entry
 use Rattle.record_form.specs.declared.record.Pointer.{Pointer}
 use Rattle.event_ring.specs.Slots.{Left}
 use Rattle.open_table.specs.Tables.{Listed, Open, Puts, Takes, open_at, puts_of, takes_of}
-use Rattle.channel_log.specs.Pointers.{PutAt}
+use Rattle.record_form.specs.Pointers.{PutAt}
 use Rattle.channel_log.proofs.Pointing.{one_event}
 use Rattle.channel_face.specs.Machine.{base_of, entries, entry_of}
 use Rattle.channel_face.specs.Sound.{Items, Rising, number_of as count_of, one_if, times}

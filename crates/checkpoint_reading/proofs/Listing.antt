@@ -14,7 +14,7 @@ use Rattle.open_table.specs.declared.table.Item.{Item}
 use Rattle.open_table.specs.declared.table.Item.TheVariants.{Put, Take}
 use Rattle.open_table.specs.Tables.{HasAt, IsOf, Listed, MayAdd, Open, Puts, Table, Takes, added, begun, open_at, size, wider, with_item}
 use Rattle.record_form.specs.declared.record.Pointer.{Pointer}
-use Rattle.channel_log.specs.Pointers.{PutAt}
+use Rattle.record_form.specs.Pointers.{PutAt}
 use Rattle.checkpoint.specs.Right.{AreOnceAmong, PutOf, number_of}
 use Rattle.checkpoint.specs.Says.{live_at}
 use Rattle.checkpoint.specs.Text.{entry_bytes, pointer_bytes}

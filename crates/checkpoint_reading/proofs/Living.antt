@@ -10,7 +10,7 @@ use Rattle.event_core.specs.Content.{Content}
 use Rattle.event_core.specs.Numbers.{u32_bytes, u64_bytes}
 use Rattle.event_ring.specs.Slots.{Index, Left}
 use Rattle.record_form.specs.declared.record.Pointer.{Pointer}
-use Rattle.channel_log.specs.Pointers.{PutAt}
+use Rattle.record_form.specs.Pointers.{PutAt}
 use Rattle.checkpoint.specs.declared.place.Next.{Next}
 use Rattle.checkpoint.specs.declared.place.Place.{Place}
 use Rattle.checkpoint.specs.Right.{PutIn, PutOf}

@@ -1,21 +1,21 @@
 -- What a pointer names.
 use Rattle.std.specs.Prelude.{◌↔◌, IfSome, IsSome, IsSomeAnd, true, false}
-use Rattle.std.proofs.Common.{◌⊎◌, inl, inr, ◌≡◌, ◌≢◌, ◌≤◌, ◌<◌, ◌+◌, ◌++◌, ◌∷◌, [], ℕ, List, length, take, drop, nat_lt, ◌==◌, Option, Some, None, refl, sym, ap, subst, ◌∙◌, arith, append_assoc, length-append}
+use Rattle.std.proofs.Common.{◌⊎◌, inl, inr, ◌≡◌, ◌≢◌, ◌≤◌, ◌<◌, ◌+◌, ◌++◌, ◌∷◌, [], ℕ, List, take, drop, nat_lt, ◌==◌, Option, Some, None, refl, sym, ap, subst, ◌∙◌, arith}
 use Rattle.std.proofs.lemmas.Bool.Decides.{eqb_tells}
 use Rattle.std.proofs.lemmas.Bool.{ltb-true}
-use Rattle.std.proofs.lemmas.List.{drop_at, length-drop, length-take, take-append-drop}
+use Rattle.std.proofs.lemmas.List.{drop_at}
 use Rattle.flume_host.specs.declared.names.FileName.{FileName}
 use Rattle.flume_host.specs.declared.names.FileName.TheVariants.{Check, Log}
 use Rattle.flume_host.specs.Folder.{Files, IsAbove, IsNext, name_below}
-use Rattle.event_core.specs.Content.{Content, size}
+use Rattle.event_core.specs.Content.{Content}
 use Rattle.record_form.specs.declared.record.Pointer.{Pointer}
 use Rattle.record_form.specs.declared.record.Rec.{Rec}
 use Rattle.record_form.specs.declared.record.Rec.TheVariants.{Put}
 use Rattle.record_form.specs.Grammar.{Complete, outcome_of}
 use Rattle.record_form.specs.Record.{Spells, record_length, spelling}
-use Rattle.record_form.proofs.Again.{length-spelling, one-spelling}
-use Rattle.channel_log.proofs.Pointed.{front, no_put, seen_long}
-use Rattle.channel_log.specs.Pointers.{PutAt}
+use Rattle.record_form.proofs.Again.{one-spelling}
+use Rattle.record_form.proofs.Pointed.{front, no_put, put_back, put_here, seen_long}
+use Rattle.record_form.specs.Pointers.{PutAt}
 use Rattle.checkpoint_reading.specs.Logs.{IsBefore, IsPutAt, IsPutIn, IsPutRec, IsSized}
 
 less_true : (a b : ℕ) → a < b → nat_lt a b ≡ true
@@ -53,55 +53,11 @@ check_next files after file found before next = (λ yes. absurd (cc), λ some. a
 pub none_next : (files : Files) (after : Option FileName) (file : ℕ) → IsBefore after file → IsNext files after None → (false ≡ true) ↔ IsSome (files (Log file))
 none_next files after file before next = (λ yes. absurd (cc), λ some. absurd (none_there (files (Log file)) (next (Log file) (above_before after file before)) some))
 
--- a PUT that a front of the bytes spells stands there, as a record of its transaction
-put_here : (bytes : List ℕ) (rec : Rec) (txn : ℕ) (event : Content) (p : Pointer) → Spells (take (record_length rec) bytes) rec → rec ≡ Put txn event → p.at ≡ 0 → size event ≡ p.length
-    → (at : PutAt bytes p event) × (at.txn ≡ txn)
-put_here bytes rec txn event p spells is zero long =
-    let s : Spells (take (record_length (Put txn event)) bytes) (Put txn event) = subst (λ (r : Rec). Spells (take (record_length r) bytes) r) is spells in
-    let n : ℕ = record_length (Put txn event) in (
-      record {
-        txn = txn;
-        before = [];
-        behind = drop n bytes;
-        split = sym (take-append-drop n bytes) ∙ ap (λ (l : List ℕ). l ++ drop n bytes) s.is;
-        place = sym zero;
-        long = long;
-        fields = s.fields;
-        limits = s.limits;
-      },
-      refl,
-    )
-
 -- what a record that a front of the bytes spells says of the pointer there
 pub put_rec : (bytes : List ℕ) (rec : Rec) (p : Pointer) (n : ℕ) (txn : Option ℕ) → outcome_of bytes ≡ Complete rec (record_length rec) → Spells (take (record_length rec) bytes) rec → p.at ≡ 0 → p.length ≡ n
     → IsPutRec rec n txn → IsPutAt bytes p txn
 put_rec bytes rec p n None read spells zero long is = λ event at. no_put bytes rec p event read (λ t e put sized. is t e put (sized ∙ long)) zero at
 put_rec bytes rec p n (Some txn) read spells zero long is = let here = put_here bytes rec txn is.0 p spells is.1 zero (is.2 ∙ sym long) in (is.0, here.0, here.1)
-
-no_before : (l : List ℕ) → length l ≡ 0 → l ≡ []
-no_before [] is = refl
-no_before (x ∷ l) is = absurd (omega (arith, is))
-
--- what stands at the front of a piece of the bytes stands in these
-put_back : (bytes : List ℕ) (n : ℕ) (p : Pointer) (event : Content) → (at : PutAt (take n (drop p.at bytes)) (front p) event) → (here : PutAt bytes p event) × (here.txn ≡ at.txn)
-put_back bytes n p event at =
-    let spelt : List ℕ = spelling (Put at.txn event) in
-    let none : at.before ≡ [] = no_before at.before at.place in
-    let here : take n (drop p.at bytes) ≡ spelt ++ at.behind = at.split ∙ ap (λ (l : List ℕ). l ++ (spelt ++ at.behind)) none in
-    let some : p.at ≤ length bytes = omega (arith, ap (λ (l : List ℕ). length l) here, length-append spelt at.behind, length-spelling (Put at.txn event), length-take n (drop p.at bytes), length-drop p.at bytes) in (
-      record {
-        txn = at.txn;
-        before = take p.at bytes;
-        behind = at.behind ++ drop n (drop p.at bytes);
-        split = sym (take-append-drop p.at bytes)
-            ∙ ap (λ (l : List ℕ). take p.at bytes ++ l) (sym (take-append-drop n (drop p.at bytes)) ∙ (ap (λ (l : List ℕ). l ++ drop n (drop p.at bytes)) here ∙ append_assoc spelt at.behind (drop n (drop p.at bytes))));
-        place = length-take p.at bytes ∙ omega (arith, some);
-        long = at.long;
-        fields = at.fields;
-        limits = at.limits;
-      },
-      refl,
-    )
 
 some_bytes : (file : Option (List ℕ)) → IsSome file → (bytes : List ℕ) × (file ≡ Some bytes)
 some_bytes None some = absurd (cc)

@@ -7,7 +7,7 @@ use Rattle.flume_host.specs.declared.names.FileName.TheVariants.{Check}
 use Rattle.byteorder.specs.Endian.{big_number}
 use Rattle.event_core.proofs.Sizes.{length-u32_bytes, length-u64_bytes}
 use Rattle.event_core.specs.Numbers.{u32_bytes, u64_bytes}
-use Rattle.channel_log.proofs.Keeping.{take_take}
+use Rattle.record_form.proofs.Pointed.{take_take}
 use Rattle.record_form.proofs.Spelled.{AreBytes, u32_part, u64_part}
 use Rattle.record_form.proofs.Values.{u32_of-take, u64_of-take}
 use Rattle.record_form.specs.declared.record.Pointer.{Pointer}

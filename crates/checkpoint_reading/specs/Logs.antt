@@ -8,7 +8,7 @@ use Rattle.event_core.specs.Content.{Content, size}
 use Rattle.record_form.specs.declared.record.Pointer.{Pointer}
 use Rattle.record_form.specs.declared.record.Rec.{Rec}
 use Rattle.record_form.specs.declared.record.Rec.TheVariants.{Put}
-use Rattle.channel_log.specs.Pointers.{PutAt}
+use Rattle.record_form.specs.Pointers.{PutAt}
 use Rattle.checkpoint.specs.Right.{PutIn, PutOf}
 use Rattle.checkpoint_reading.specs.Reader.{HasLog}
 use Rattle.checkpoint_reading.specs.declared.logs.Logs.{Logs}

@@ -9,7 +9,7 @@ use Rattle.event_core.specs.declared.journal.Entry.TheVariants.{Puts, Takes}
 use Rattle.event_ring.specs.Slots.{Left}
 use Rattle.record_form.specs.declared.record.Pointer.{Pointer}
 use Rattle.record_form.specs.declared.record.Rec.TheVariants.{CommitPut, CommitTake, End, Put, Rollback, Take}
-use Rattle.channel_log.specs.Pointers.{PutAt}
+use Rattle.record_form.specs.Pointers.{PutAt}
 use Rattle.channel_replay.specs.declared.line.Line.{Line}
 use Rattle.channel_replay.specs.declared.line.Line.TheVariants.{Begins, Faulty, Stands}
 use Rattle.checkpoint.specs.Right.{EventsAre, IsRight, LiveAre, OpenAre, PutIn}

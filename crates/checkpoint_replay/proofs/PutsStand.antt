@@ -14,7 +14,7 @@ use Rattle.record_form.specs.Record.{record_length, spelling}
 use Rattle.record_form.proofs.Again.{length-spelling}
 use Rattle.channel_log.specs.Frames as contents
 use Rattle.channel_log.specs.Frames.{Holds, IsFrame, IsFramed, frame_bytes, header, opened, record_bytes}
-use Rattle.channel_log.specs.Pointers.{PutAt}
+use Rattle.record_form.specs.Pointers.{PutAt}
 use Rattle.channel_log.specs.Reader.{Goes, frame_items, record_items}
 use Rattle.channel_replay.specs.declared.line.Line.{Line}
 use Rattle.channel_replay.specs.declared.line.Line.TheVariants.{Begins, Faulty, Stands}

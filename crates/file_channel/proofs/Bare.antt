@@ -16,7 +16,8 @@ use Rattle.record_form.specs.declared.record.Pointer.{Pointer}
 use Rattle.event_ring.specs.Slots.{Index, Left}
 use Rattle.open_table.specs.Tables.{Listed, Open, Puts, Table, Takes, open_at, puts_of, takes_of}
 use Rattle.channel_log.specs.Frames.{header, opened}
-use Rattle.channel_log.specs.Pointers.{PutAt, end_of, in_frame}
+use Rattle.record_form.specs.Pointers.{PutAt}
+use Rattle.channel_log.specs.Pointers.{end_of, in_frame}
 use Rattle.channel_log.specs.Writer.{Writer}
 use Rattle.channel_log.proofs.Pointing.{put_grows}
 use Rattle.channel_face.specs.Machine.{State, base_of, entry_of}

@@ -11,7 +11,7 @@ use Rattle.flume_host.proofs.Telling.{back, follows, forth, silent, some_same, t
 use Rattle.event_core.specs.Content.{Content, size}
 use Rattle.event_core.specs.Journal.{Base, IsBase}
 use Rattle.record_form.specs.declared.record.Pointer.{Pointer}
-use Rattle.channel_log.specs.Pointers.{PutAt}
+use Rattle.record_form.specs.Pointers.{PutAt}
 use Rattle.channel_log.specs.Window.{IsPieceOf, Kept, nothing_kept}
 use Rattle.channel_log.specs.Writer as writers
 use Rattle.channel_log.specs.Writer.{IsBlank, Writer}

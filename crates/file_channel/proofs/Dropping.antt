@@ -11,7 +11,8 @@ use Rattle.flume_host.proofs.Telling.{back, tells_more, tells_same}
 use Rattle.event_core.specs.Content.{Content}
 use Rattle.record_form.specs.declared.record.Pointer.{Pointer}
 use Rattle.open_table.specs.Tables.{open_at}
-use Rattle.channel_log.specs.Pointers.{PutAt, end_of}
+use Rattle.record_form.specs.Pointers.{PutAt}
+use Rattle.channel_log.specs.Pointers.{end_of}
 use Rattle.channel_log.specs.Window.{IsPieceOf}
 use Rattle.channel_log.specs.Writer.{Writer}
 use Rattle.channel_face.specs.Machine.{AdmitsPrune, Prune, State, entry_of}

@@ -14,7 +14,8 @@ use Rattle.record_form.specs.declared.record.Pointer.{Pointer}
 use Rattle.record_form.specs.declared.record.Rec.{Rec}
 use Rattle.open_table.specs.Tables.{Listed, Open, Puts, Table, Takes, is_behind, moved, moved_open, moved_pointer, open_at, puts_of}
 use Rattle.channel_log.specs.Frames.{header, opened}
-use Rattle.channel_log.specs.Pointers.{IsWaiting, PutAt, end_of, settled_part}
+use Rattle.record_form.specs.Pointers.{PutAt}
+use Rattle.channel_log.specs.Pointers.{IsWaiting, end_of, settled_part}
 use Rattle.channel_log.specs.Window.{IsPieceOf}
 use Rattle.channel_log.specs.Writer.{IsBlank, Writer, file_of}
 use Rattle.channel_log.proofs.Keeping.{piece_grows}

@@ -9,9 +9,10 @@ use Rattle.flume_host.specs.declared.names.FileName.TheVariants.{Log}
 use Rattle.event_core.specs.Content.{Content}
 use Rattle.record_form.specs.declared.record.Pointer.{Pointer}
 use Rattle.record_form.specs.declared.record.Rec.{Rec}
-use Rattle.channel_log.specs.Pointers.{IsWaiting, PutAt, end_of}
+use Rattle.record_form.specs.Pointers.{PutAt}
+use Rattle.channel_log.specs.Pointers.{IsWaiting, end_of}
 use Rattle.channel_log.specs.Writer.{Writer, file_of}
-use Rattle.channel_log.proofs.Pointed.{within}
+use Rattle.record_form.proofs.Pointed.{within}
 use Rattle.channel_log.proofs.Pointing.{put_grows}
 use Rattle.channel_face.specs.Machine.{State}
 use Rattle.channel_writing.specs.Written.{OnDisk}

@@ -14,11 +14,12 @@ use Rattle.record_form.specs.Record.{spelling}
 use Rattle.channel_log.specs.Frames.{frame_bytes, opened, record_bytes}
 use Rattle.channel_log.specs.Window.{IsBelow, IsPieceOf, Kept}
 use Rattle.channel_log.specs.Writer.{Appends, IsAtRest, IsPending, LacksOrHas, Writer}
-use Rattle.channel_log.specs.Pointers.{FoundAt, IsOfLength, IsWaiting, PutAt, end_of, in_frame, settled_part}
+use Rattle.record_form.specs.Pointers.{PutAt}
+use Rattle.channel_log.specs.Pointers.{FoundAt, IsOfLength, IsWaiting, end_of, in_frame, settled_part}
 use Rattle.channel_log.specs.declared.pointers.ReadRefused.{ReadRefused}
 use Rattle.channel_log.specs.declared.pointers.ReadRefused.TheVariants.{Damaged, NoMemory, ReadFault}
 use Rattle.channel_log.proofs.Keeping.{piece_grows}
-use Rattle.channel_log.proofs.Pointed.{within}
+use Rattle.record_form.proofs.Pointed.{within}
 use Rattle.channel_log.proofs.Pointing.{one_event, part-append, put_grows}
 use Rattle.channel_face.specs.Machine.{is_some_of}
 use Rattle.channel_places.specs.Looks.{Known, StandsIn}

@@ -8,7 +8,7 @@ use Rattle.event_core.specs.Content.{Content, size}
 use Rattle.event_core.specs.Journal.{Base, IsBase}
 use Rattle.record_form.specs.declared.record.Pointer.{Pointer}
 use Rattle.event_ring.specs.Slots.{Left}
-use Rattle.channel_log.specs.Pointers.{PutAt}
+use Rattle.record_form.specs.Pointers.{PutAt}
 use Rattle.channel_places.specs.Looks.{Known, LookLeft, StandsIn}
 use Rattle.channel_places.proofs.Looking.{left_length}
 use Rattle.channel_face.specs.Sound.{Rising}

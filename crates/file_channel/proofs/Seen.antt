@@ -10,9 +10,11 @@ use Rattle.record_form.specs.Record.{spelling}
 use Rattle.record_form.specs.declared.record.Pointer.{Pointer}
 use Rattle.record_form.specs.declared.record.Rec.TheVariants.{Put}
 use Rattle.event_ring.specs.Slots.{Left}
-use Rattle.channel_log.specs.Pointers.{PutAt, end_of, in_frame}
+use Rattle.record_form.specs.Pointers.{PutAt}
+use Rattle.channel_log.specs.Pointers.{end_of, in_frame}
 use Rattle.channel_log.specs.Writer.{Writer}
-use Rattle.channel_log.proofs.Pointing.{put_grows, put_read}
+use Rattle.record_form.proofs.Pointed.{put_read}
+use Rattle.channel_log.proofs.Pointing.{put_grows}
 use Rattle.channel_places.specs.Looks.{Known, LookLeft}
 use Rattle.ring_replay.specs.Indexing.{AreSized, HasItems, IsPlaced}
 use Rattle.file_channel.specs.Opened.{AreSeen}

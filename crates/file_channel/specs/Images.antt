@@ -5,7 +5,8 @@ use Rattle.flume_host.specs.Told.{Told}
 use Rattle.flume_host.specs.declared.names.FileName.TheVariants.{Log}
 use Rattle.event_core.specs.Content.{Content}
 use Rattle.record_form.specs.declared.record.Pointer.{Pointer}
-use Rattle.channel_log.specs.Pointers.{IsWaiting, PutAt}
+use Rattle.record_form.specs.Pointers.{PutAt}
+use Rattle.channel_log.specs.Pointers.{IsWaiting}
 use Rattle.channel_face.specs.Machine.{State}
 use Rattle.channel_places.specs.Looks.{StandsIn}
 use Rattle.file_channel.specs.Placed.{IsStateOf, Logged}

@@ -9,7 +9,8 @@ use Rattle.record_form.specs.declared.record.Pointer.{Pointer}
 use Rattle.open_table.specs.Tables.{Table}
 use Rattle.channel_log.specs.Writer.{Writer}
 use Rattle.channel_log.specs.Window.{IsPieceOf}
-use Rattle.channel_log.specs.Pointers.{IsWaiting, PutAt, end_of, in_frame}
+use Rattle.record_form.specs.Pointers.{PutAt}
+use Rattle.channel_log.specs.Pointers.{IsWaiting, end_of, in_frame}
 use Rattle.channel_face.specs.Machine.{State}
 use Rattle.channel_places.specs.Looks.{Known, Looks, Places, StandsIn, pointers_at}
 use Rattle.channel_laying.specs.Laying.{AreNeeded}

@@ -10,3 +10,4 @@ pub mod Cuts
 pub mod Spelled
 pub mod SpelledPut
 pub mod Outlined
+pub mod Pointed

@@ -3,3 +3,4 @@ pub mod Grammar
 pub mod Record
 pub mod Laws
 pub mod Outlines
+pub mod Pointers

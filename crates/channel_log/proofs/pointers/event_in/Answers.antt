@@ -1,7 +1,8 @@
 use Rattle.std.proofs.Common.{None, refl, subst, sym, ℕ}
 use Rattle.event_core.specs.Content.{size}
 use Rattle.channel_log.specs.Pointers.{IsEventOf}
-use Rattle.channel_log.proofs.Pointed.{found_in, none_some, none_unread, not_fault}
+use Rattle.record_form.proofs.Pointed.{none_unread}
+use Rattle.channel_log.proofs.Pointed.{found_in, none_some, not_fault}
 use Rattle.channel_log.proofs.pointers.event_in.Goals as goal
 
 pub returns-in_default : goal.returns-in_default

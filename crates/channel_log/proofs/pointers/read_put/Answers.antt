@@ -1,5 +1,6 @@
 use Rattle.std.proofs.Common.{◌∙◌, arith, refl, sym}
-use Rattle.channel_log.proofs.Pointed.{found_back, front, seen_greatest, seen_uncut, uncut, uncut_kept}
+use Rattle.record_form.proofs.Pointed.{front}
+use Rattle.channel_log.proofs.Pointed.{found_back, seen_greatest, seen_uncut, uncut, uncut_kept}
 use Rattle.channel_log.proofs.pointers.read_put.Goals as goal
 
 pub returns-then-not-is_cut-clause-found : goal.returns-then-not-is_cut-clause-found

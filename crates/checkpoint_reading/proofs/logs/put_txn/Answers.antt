@@ -1,5 +1,5 @@
 use Rattle.std.proofs.Common.{◌∙◌, refl}
-use Rattle.channel_log.proofs.Pointed.{front}
+use Rattle.record_form.proofs.Pointed.{front}
 use Rattle.checkpoint_reading.proofs.Naming.{put_in, sized_put}
 use Rattle.checkpoint_reading.proofs.logs.put_txn.Goals as goal
 

@@ -1,4 +1,4 @@
-use Rattle.channel_log.proofs.Pointed.{none_unread}
+use Rattle.record_form.proofs.Pointed.{none_unread}
 use Rattle.checkpoint_reading.proofs.Naming.{put_rec}
 use Rattle.checkpoint_reading.proofs.logs.txn_in.Goals as goal
 

@@ -2,7 +2,8 @@ use Rattle.std.proofs.Common.{List, ℕ, refl, subst, sym}
 use Rattle.channel_log.specs.Pointers.{FoundAt}
 use Rattle.channel_log.specs.Window.{IsBelow, IsPieceOf}
 use Rattle.channel_log.specs.Writer.{Writer}
-use Rattle.channel_log.proofs.Pointed.{found_kept, front}
+use Rattle.record_form.proofs.Pointed.{front}
+use Rattle.channel_log.proofs.Pointed.{found_kept}
 use Rattle.channel_log.proofs.writer.LogWriter.read_at.Goals as goal
 
 pub returns-clause-found : goal.returns-clause-found

@@ -1,6 +1,7 @@
 use Rattle.std.proofs.Common.{◌∙◌, ap, refl}
 use Rattle.channel_log.specs.Writer.{Writer}
-use Rattle.channel_log.proofs.Pointed.{found_waiting, front}
+use Rattle.record_form.proofs.Pointed.{front}
+use Rattle.channel_log.proofs.Pointed.{found_waiting}
 use Rattle.channel_log.proofs.writer.LogWriter.waiting.Goals as goal
 
 pub returns-clause-found : goal.returns-clause-found
