@@ -14,8 +14,8 @@ use Rattle.file_channel.specs.Stands.{FileState}
 use Rattle.channel_laws.proofs.Until.{counted_calls_leave}
 use Rattle.load_gen.specs.declared.refused.LoadRefused.{LoadRefused}
 use Rattle.shared_channel.specs.Passes.{Known}
+use Rattle.agent_words.specs.Statuses.{cause_status}
 use Rattle.agent_commands.specs.Loads.{IsClosedAtOnce, IsLeftClosed, Ran, RanOn, as_cause, load_status, refused_status}
-use Rattle.agent_commands.specs.Piped.{cause_status}
 use Rattle.agent_commands.specs.Puts.{BeginsOver}
 use Rattle.agent_commands.specs.Stored.{IsOfFolder, IsRefusedFolder, IsUnopened, default_limits}
 use Rattle.agent_commands.specs.Trails.{StandsTraced}

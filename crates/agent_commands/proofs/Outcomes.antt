@@ -30,10 +30,11 @@ use Rattle.shared_channel.specs.Calls.{Left}
 use Rattle.shared_channel.specs.Counting.{StandsAgreeing}
 use Rattle.shared_channel.specs.Passes.{Known, new_pass}
 use Rattle.channel_lock.specs.Turns.{HasAll}
+use Rattle.agent_words.specs.Statuses.{cause_status}
 use Rattle.agent_commands.specs.Handled.{GoesOn, doubted, ends_run, has_doubt, is_in_doubt}
 use Rattle.agent_commands.specs.Session.{Served, Stopped}
 use Rattle.agent_commands.specs.Stored.{Holds, IsOfFolder, IsRefusedFolder, IsUnopened, default_limits}
-use Rattle.agent_commands.specs.Piped.{HostCause, Stored, Interrupted, Piped, IsWellStatus, cause_status, end_status}
+use Rattle.agent_commands.specs.Piped.{HostCause, Stored, Interrupted, Piped, IsWellStatus, end_status}
 use Rattle.agent_commands.proofs.Ends.{all_go, doubt-append, first_go, last_in_doubt, lines_few, none_in_doubt, served_end, served_full, served_long, stopped}
 use Rattle.agent_commands.proofs.Idle.{Stands}
 use Rattle.agent_commands.specs.Puts.{BeginsOver, PutsLine}

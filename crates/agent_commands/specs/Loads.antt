@@ -28,7 +28,7 @@ use Rattle.shared_channel.specs.Calls.{state_seen}
 use Rattle.shared_channel.specs.Passes.{Known}
 use Rattle.shared_channel.specs.Ports.{AreUnder}
 use Rattle.flume_host.specs.Writes.{Fronts}
-use Rattle.agent_commands.specs.Piped.{cause_status}
+use Rattle.agent_words.specs.Statuses.{cause_status}
 use Rattle.agent_commands.specs.Puts.{BeginsOver}
 use Rattle.agent_commands.specs.Stored.{IsOfFolder, IsRefusedFolder, IsUnopened, default_limits}
 use Rattle.agent_commands.specs.declared.load.LoadCause.{LoadCause}

@@ -12,8 +12,7 @@ use Rattle.agent_commands.specs.Handled.{GoesOn, doubted}
 use Rattle.agent_commands.specs.Puts.{ArePut, ArePutIfAny}
 use Rattle.agent_commands.specs.Session.{Served, Stopped}
 use Rattle.agent_commands.specs.Stored.{Holds, IsRefusedFolder, IsUnopened}
-use Rattle.channel_face.specs.declared.replies.OpenCause.{OpenCause}
-use Rattle.channel_face.specs.declared.replies.OpenCause.TheVariants as causes
+use Rattle.agent_words.specs.Statuses.{cause_status}
 use Rattle.agent_commands.specs.declared.pipe.PipeEnd.{PipeEnd}
 use Rattle.agent_commands.specs.declared.pipe.PipeEnd.TheVariants.{Served as ByServing, Unopened}
 use Rattle.line_session.specs.declared.session.SessionEnd.{SessionEnd}
@@ -84,15 +83,6 @@ end_status (Line said) = 3
 end_status NoMemory = 5
 end_status ReadFault = 3
 end_status WriteFault = 3
-
--- the status of a run whose folder was not opened
-abbrev pub cause_status : OpenCause → ℕ
-cause_status causes.DiskFault = 3
-cause_status (causes.BadCheck file at) = 4
-cause_status (causes.BadLog file at) = 4
-cause_status (causes.OverCapacity count) = 4
-cause_status (causes.Spent counter) = 4
-cause_status causes.NoMemory = 5
 
 abbrev pub pipe_status : PipeEnd → ℕ
 pipe_status (ByServing end) = end_status end

@@ -8,7 +8,7 @@ mod pipe;
 mod traced;
 
 pub use check::{Planned, plan_agent, run_check};
-pub use errors::{say_error, unopened};
+pub use errors::say_error;
 pub use load::{LoadCause, LoadEnded, run_load};
 pub use pipe::{PassLines, PipeEnd, PipeEnded, run_pipe};
 pub use traced::TracedChannel;

@@ -9,7 +9,7 @@ ghost use Rattle.agent_commands.specs.Puts.{BeginsOver, IsFirstPass};
 ghost use Rattle.agent_commands.specs.Trails.{StandsTraced};
 
 use crate::check::print;
-use crate::errors::{say_error, unopened};
+use crate::errors::say_error;
 use crate::pipe::share;
 use crate::traced::{TracedChannel, default_limits};
 use agent_words::RunError;
@@ -232,7 +232,7 @@ fn load_error(alloc: Global, dir: &str, cause: LoadCause) -> Result<RunError, Al
     let dir = String::from_str(alloc, dir)?;
     let capacity = default_limits().capacity;
     Ok(match cause {
-        LoadCause::Unopened(cause) => unopened(dir, capacity, cause),
+        LoadCause::Unopened(cause) => RunError::unopened(dir, capacity, cause),
         LoadCause::TooMany { count } => RunError::OverCapacity {
             dir,
             count,

@@ -10,7 +10,7 @@ ghost use Rattle.agent_commands.specs.Piped.{HostCause, Piped, IsPipeStatus, pip
 ghost use Rattle.agent_commands.specs.Puts.{BeginsOver, IsFirstPass, PutsLine, begin_verdict, put_verdict, verdict_of};
 ghost use Rattle.agent_commands.specs.Trails.{StandsTraced, traced_by};
 
-use crate::errors::{say_error, unopened};
+use crate::errors::say_error;
 use crate::traced::{TracedChannel, default_limits};
 use agent_words::RunError;
 use channel_face::{BeginRefused, Channel, FaceRefused, OpenCause, PutFace, PutRefused};
@@ -363,7 +363,7 @@ fn pipe_error(alloc: Global, dir: &str, end: PipeEnd) -> Result<Option<RunError>
         PipeEnd::Served(SessionEnd::Line(_) | SessionEnd::ReadFault | SessionEnd::WriteFault) =>
             RunError::Fault,
         PipeEnd::Unopened(cause) => {
-            unopened(
+            RunError::unopened(
                 String::from_str(alloc, dir)?,
                 default_limits().capacity,
                 cause,

@@ -1,5 +1,7 @@
 -- Exit statuses.
 use Rattle.std.specs.Prelude.{ℕ}
+use Rattle.channel_face.specs.declared.replies.OpenCause.{OpenCause}
+use Rattle.channel_face.specs.declared.replies.OpenCause.TheVariants as causes
 use Rattle.prop_text.specs.declared.fault.PropRefused.{PropRefused}
 use Rattle.prop_text.specs.declared.fault.PropRefused.TheVariants as text
 use Rattle.plan_refused.specs.declared.refused.PlanRefused.{PlanRefused}
@@ -39,3 +41,12 @@ status_of (Damaged dir) = 4
 status_of NoMemory = 5
 status_of InputTooLong = 6
 status_of LineTooLong = 7
+
+-- the status of a run whose channel was not opened for this cause
+abbrev pub cause_status : OpenCause → ℕ
+cause_status causes.DiskFault = 3
+cause_status (causes.BadCheck file at) = 4
+cause_status (causes.BadLog file at) = 4
+cause_status (causes.OverCapacity count) = 4
+cause_status (causes.Spent counter) = 4
+cause_status causes.NoMemory = 5

@@ -1,9 +1,10 @@
 //! Why a run ended otherwise than well.
 
 ghost use Rattle.std.specs.Prelude.{◌≡◌};
-ghost use Rattle.agent_words.specs.Statuses.{status_of};
+ghost use Rattle.agent_words.specs.Statuses.{cause_status, status_of};
 ghost use Rattle.agent_words.specs.declared.error.RunError.TheVariants as errors;
 
+use channel_face::OpenCause;
 use plan_refused::PlanRefused;
 use prop_text::PropRefused;
 use std::alloc::AllocError;
@@ -82,6 +83,24 @@ impl From<AllocError> for RunError {
 }
 
 impl RunError {
+    /// Why a run ended whose channel, in this folder and of this capacity, was not opened for this cause.
+    pub fn unopened(dir: String, capacity: u32, cause: OpenCause) -> RunError
+        ensures { status_of result ≡ cause_status cause }
+    {
+        match cause {
+            OpenCause::DiskFault => RunError::Fault,
+            OpenCause::BadCheck { file, at } => RunError::BadCheckpoint { dir, file, at },
+            OpenCause::BadLog { file, at } => RunError::BadLog { dir, file, at },
+            OpenCause::OverCapacity { count } => RunError::OverCapacity {
+                dir,
+                count,
+                capacity,
+            },
+            OpenCause::Spent { .. } => RunError::Spent { dir },
+            OpenCause::NoMemory => RunError::NoMemory,
+        }
+    }
+
     /// The exit status.
     pub fn status(&self) -> u8
         ensures { result ≡ status_of self.now }
