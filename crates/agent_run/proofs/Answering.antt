@@ -40,6 +40,7 @@ first_of_six false false false true e = inr (inr (inr (inr (inr refl))))
 first_of_six false false false false true = inr (inr (inr (inr (inl refl))))
 first_of_six false false false false false = inl refl
 
+-- a run of `agent` never ends with status 1
 pub never_one : (n : ℕ) → IsAgentStatus n → n ≡ 1 → ⊥
 never_one n (inl two) one = omega (arith, two, one)
 never_one n (inr (inl a)) one = omega (arith, a, one)
@@ -49,6 +50,7 @@ never_one n (inr (inr (inr (inr (inl a))))) one = omega (arith, a, one)
 never_one n (inr (inr (inr (inr (inr (inl a)))))) one = omega (arith, a, one)
 never_one n (inr (inr (inr (inr (inr (inr a)))))) one = omega (arith, a, one)
 
+-- a run of a plan never ends with status 2
 pub never_two : (n : ℕ) → IsRunStatus n → n ≡ 2 → ⊥
 never_two n (inl a) two = omega (arith, a, two)
 never_two n (inr (inl a)) two = omega (arith, a, two)
@@ -57,6 +59,7 @@ never_two n (inr (inr (inr (inl a)))) two = omega (arith, a, two)
 never_two n (inr (inr (inr (inr (inl a))))) two = omega (arith, a, two)
 never_two n (inr (inr (inr (inr (inr a))))) two = omega (arith, a, two)
 
+-- what is the same as a status of a run is one
 pub ended : (status n : ℕ) → status ≡ n → IsRunStatus n → IsRunStatus status
 ended status n same is = subst IsRunStatus (sym same) is
 
@@ -77,6 +80,7 @@ by_step n (inl three) = inr (inl three)
 by_step n (inr (inl four)) = inr (inr (inl four))
 by_step n (inr (inr five)) = inr (inr (inr (inl five)))
 
+-- a run that was refused ends with a status of a run
 pub refused : (p : Plan) (status n : ℕ) (a b : HostTold) → status ≡ n → IsRunRefused p n a b → IsRunStatus status
 refused p status n a b same why = subst IsRunStatus (sym same) (by_step n (step_status why))
 
@@ -97,6 +101,7 @@ unnamed lacks file agent old new status is = record {
   fault = λ two told e. is.fault two told e;
 }
 
+-- the plan of an agent in a file is one that some properties text may have
 pub is_planned : (lacks : Lacking) (file : Option (List ℕ)) (agent : List ℕ) (p : Plan) → IsPlanOf lacks file agent p → IsPlanned p
 is_planned lacks file agent p of = (of.2.0, agent, of.2.2.0)
 
@@ -174,10 +179,12 @@ of_plan Ran lacks held left given objects {status = status} {channels = channels
 
 -- how a run of this kind ended, from the same to the same
 module _ {lacks : Lacking} {Ran : Plan → RunEnds → List ChannelEnd → HostTold → HostTold → Type 0} {status : ℕ} {channels : List ChannelEnd} where
+  -- how a run ended is told as well of what is the same as the host that it left
   pub agent_same : {file : Option (List ℕ)} {agent : List ℕ} {a b b' : HostTold} → b ≡ b'
       → AgentEndsAs lacks Ran file agent status channels a b → AgentEndsAs lacks Ran file agent status channels a b'
   agent_same {file = file} {agent = agent} {a = a} last ran = subst (λ (x : HostTold). AgentEndsAs lacks Ran file agent status channels a x) last ran
 
+  -- and of what are the same as its file and the name of its agent
   pub agent_named : (files : List ℕ → Option (List ℕ)) {file file' agent agent' : List ℕ} {a b : HostTold} → file ≡ file' → agent ≡ agent'
       → AgentEndsAs lacks Ran (files file) agent status channels a b → AgentEndsAs lacks Ran (files file') agent' status channels a b
   agent_named files {a = a} {b = b} f n ran = subst (λ (x : List ℕ × List ℕ). AgentEndsAs lacks Ran (files x.0) x.1 status channels a b) (λ i. (f i, n i)) ran
@@ -187,6 +194,7 @@ pub if_ok : {T E : Type 0} (r : Result T E) (P Q : T → Type 0) → ((t : T) �
 if_ok (Ok t) P Q step p = step t p
 if_ok (Err e) P Q step p = tt
 
+-- what was opened outside the channels, for the same places and with the same listeners
 pub outside_at : {R A B N : Type 0} {rolled : R → Option Rolled} {faults : R → ℕ} {dial : DialTold A} {Fresh : Endpoint → Option HandedOut → N → Type 0} {p : Plan} {objects : List (Option B)} {l l' : List ℕ} {a b : HostTold}
     {all : List (AgentSink R A B)} {bare bare' : List N} → l ≡ l' → bare ≡ bare' → IsOutside rolled faults dial Fresh p objects l a b all bare → IsOutside rolled faults dial Fresh p objects l' a b all bare'
 outside_at {N = N} {rolled = rolled} {faults = faults} {dial = dial} {Fresh = Fresh} {p = p} {objects = objects} {a = a} {b = b} {all = all} places listeners is =

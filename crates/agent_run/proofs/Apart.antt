@@ -31,6 +31,7 @@ use Rattle.run_opening.specs.Prepared.{IsPlanned}
 abbrev pub Whole : Candidates → Type 0
 Whole c = c.missing ≡ []
 
+-- where two together lack no key, neither of them does
 pub both_whole : (a b : Candidates) → Whole (a ⊕ b) → Whole a × Whole b
 unfolding ◌⊕◌
 both_whole a b h = none_of a.missing b.missing h
@@ -115,6 +116,7 @@ both_again : (x y : Candidates) → Clean x → Clean y → Clean (x ⊕ y)
 unfolding ◌⊕◌
 both_again x y p q = (λ i. p i ++ y.faults) ∙ q
 
+-- where nothing is at fault with the claims of two lists together, nothing is with those of either
 pub each_back : (f : Wish → Candidates) (a b : List Wish) → Clean (each f (a ++ b)) → Clean (each f a) × Clean (each f b)
 each_back f [] b clean = (refl, clean)
 each_back f (w ∷ a) b clean =
@@ -122,6 +124,7 @@ each_back f (w ∷ a) b clean =
     let rest = each_back f a b parts.1 in
     (both_again (f w) (each f a) parts.0 rest.0, rest.1)
 
+-- where no two claims of two lists together clash, no two of either list do
 pub clashes_back : (a b : List Wish) → Clean (clashes (a ++ b)) → Clean (clashes a) × Clean (clashes b)
 clashes_back [] b clean = (refl, clean)
 clashes_back (w ∷ a) b clean =
@@ -186,6 +189,7 @@ module _ (pairs : List Pair) (agent : List ℕ) where
     pub source_claims : Clean (clashes (flat_map (source_claims pairs agent) (agents.sources pairs agent)))
     pub channel_claims : Clean (clashes (Claims (agents.channels pairs agent)))
 
+  -- no source or channel of a plan that was made is at fault, and no two of either claim the same
   pub plan_clear : (plan : Plan) → Plans pairs agent (Ok plan) → IsClear
   plan_clear plan (is, (s, found, right), made) =
       let sources = agents.sources pairs agent in
@@ -226,5 +230,6 @@ module _ (pairs : List Pair) (agent : List ℕ) where
       let clear = plan_clear plan is in
       none_twice (agents.channels pairs agent) plan.channels.items clear.channels clear.channels_whole is.2.channels clear.channel_claims
 
+-- no two channels of a plan that some properties text may have are in one folder
 pub folders_apart : (plan : Plan) → IsPlanned plan → FoldersAreApart plan.channels.items
 folders_apart plan planned = plan_apart planned.0 planned.1 plan planned.2

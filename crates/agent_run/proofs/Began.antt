@@ -30,6 +30,7 @@ all_based : (table : TableId) (start : Opening) (passes k : ℕ) → AllByRecurs
 all_based table start passes zero = tt
 all_based table start passes (suc k) = based_push start (new_passes table start passes k) (new_pass table start passes k) (all_based table start passes k) refl
 
+-- the pass at home of a channel that was opened begins with what the channel began with
 pub fresh_base : {A B : Type 0} (Starts : Opening → Type 0) (users : ℕ) (share : EitherShared A B) (home : Known) (others : List Known)
     → (is : IsFresh Starts users share home others) → home.view.base ≡ is.start
 fresh_base Starts users share home others is =
@@ -75,6 +76,7 @@ began_at (wish ∷ wishes) (x ∷ cs) a b all (suc place) w c path below placed 
       more.1,
     )
 
+-- as many channels were opened as were wanted
 pub opened_many : {A B : Type 0} (wishes : List ChannelWish) (cs : List (OpenedChannel A B)) (a b : HostTold) → AreOpened wishes cs a b → length cs ≡ length wishes
 opened_many [] [] a b all = refl
 opened_many [] (c ∷ cs) a b all = absurd all

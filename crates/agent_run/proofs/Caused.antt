@@ -5,7 +5,6 @@ use Rattle.std.specs.List.{list_any}
 use Rattle.channel_face.specs.declared.replies.OpenCause.{OpenCause}
 use Rattle.channel_face.specs.declared.replies.OpenCause.TheVariants as cause
 use Rattle.sink_runner.specs.declared.turn.Turn.TheVariants as turn
-use Rattle.agent_commands.specs.Piped.{cause_status}
 use Rattle.agent_end.specs.Statuses.{drain_status, first_in, input_status, mend_status, report_status, run_status, statuses}
 use Rattle.agent_end.specs.declared.draining.ChannelDrain.{ChannelDrain}
 use Rattle.agent_end.specs.declared.draining.ChannelDrain.TheVariants.{Emptied, Stopped}
@@ -14,6 +13,7 @@ use Rattle.agent_end.specs.declared.ends.InputEnd.TheVariants as input
 use Rattle.agent_end.specs.declared.ends.ReportRefused.{ReportRefused}
 use Rattle.agent_end.specs.declared.ends.ReportRefused.TheVariants as report
 use Rattle.agent_end.specs.declared.ends.RunEnds.{RunEnds}
+use Rattle.agent_words.specs.Statuses.{cause_status}
 use Rattle.agent_run.specs.Errors.{IsRunStatus}
 use Rattle.agent_run.proofs.Answering.{first_of_six}
 
@@ -121,6 +121,7 @@ refused_status (cause.BadLog file at) = refl
 refused_status (cause.OverCapacity count) = refl
 refused_status (cause.Spent counter) = refl
 
+-- of all causes only a fault of the disk has the status 3
 pub disk_fault : (c : OpenCause) → cause_status c ≡ 3 → c ≡ cause.DiskFault
 disk_fault cause.DiskFault is = refl
 disk_fault cause.NoMemory is = absurd (omega (arith, is))
@@ -131,6 +132,7 @@ disk_fault (cause.Spent counter) is = absurd (omega (arith, is))
 
 -- ---- the input and the report
 
+-- of all ends of the input only its fault has the status 3
 pub input_fault : (i : InputEnd) → input_status i ≡ 3 → i ≡ input.Fault
 input_fault input.End is = absurd (omega (arith, is))
 input_fault input.Fault is = refl
@@ -184,6 +186,7 @@ module _ (run : RunEnds) where
         ]
       ]
 
+  -- at status 3 the input or the report failed, or a mend has this status
   pub by_fault : run_status run ≡ 3 → (run.input ≡ input.Fault) ⊎ (run.report ≡ Err report.Fault) ⊎ SomeMend 3 run.mends.items
   by_fault is = elim (part_with 3 (λ e. omega (arith, e)) (λ e. omega (arith, e)) is) [
     | inl here ↦ inl (input_fault run.input here)
@@ -193,6 +196,7 @@ module _ (run : RunEnds) where
     ]
   ]
 
+  -- at status 4 a mend has this status
   pub by_mend : run_status run ≡ 4 → SomeMend 4 run.mends.items
   by_mend is = elim (part_with 4 (λ e. omega (arith, e)) (λ e. omega (arith, e)) is) [
     | inl here ↦ absurd (input_held run.input here)
@@ -202,6 +206,7 @@ module _ (run : RunEnds) where
     ]
   ]
 
+  -- at status 6 the reading ended since 2^40 bytes were read
   pub by_full : run_status run ≡ 6 → run.input ≡ input.Full
   by_full is = elim (part_with 6 (λ e. omega (arith, e)) (λ e. omega (arith, e)) is) [
     | inl here ↦ input_full run.input here
@@ -211,6 +216,7 @@ module _ (run : RunEnds) where
     ]
   ]
 
+  -- at status 7 the reading ended since a line was too long
   pub by_long : run_status run ≡ 7 → run.input ≡ input.LongLine
   by_long is = elim (part_with 7 (λ e. omega (arith, e)) (λ e. omega (arith, e)) is) [
     | inl here ↦ input_long run.input here
@@ -229,5 +235,6 @@ module _ (run : RunEnds) where
       has_behind 4 (input_status run.input ∷ report_status run.report ∷ drains) mends (has_mend 4 run.mends.items some.place some.below some.here) in
       ap (λ (b : Bool). cond b 4 (first_in (3 ∷ 5 ∷ 7 ∷ 6 ∷ []) (statuses run))) there
 
+  -- what a run comes to has one of the statuses of a run
   pub is_status : IsRunStatus (run_status run)
   is_status = first_of_six (has 4 (statuses run)) (has 3 (statuses run)) (has 5 (statuses run)) (has 7 (statuses run)) (has 6 (statuses run))

@@ -22,11 +22,11 @@ use Rattle.channel_wishes.specs.declared.opened.OpenedChannel.{OpenedChannel}
 use Rattle.channel_wishes.specs.declared.wish.ChannelPlace.{ChannelPlace}
 use Rattle.channel_wishes.specs.declared.wish.ChannelPlace.TheVariants.{Memory, Folder}
 use Rattle.channel_wishes.specs.declared.wish.ChannelWish.{ChannelWish}
-use Rattle.agent_commands.specs.Piped.{cause_status}
 use Rattle.agent_end.specs.Statuses.{mend_status}
 use Rattle.agent_end.specs.declared.draining.ChannelDrain.{ChannelDrain}
 use Rattle.run_tracks.specs.Closes.{IsClosed}
 use Rattle.run_tracks.specs.Stops.{IsKept, IsMended}
+use Rattle.agent_words.specs.Statuses.{cause_status}
 use Rattle.agent_run.specs.Causes.{IsLeftBroken, IsSpent, SomeInFolder, SomeIsLeft}
 use Rattle.agent_run.specs.Finals.{finals_of}
 use Rattle.agent_run.specs.FoldersTold.{folder_of}
@@ -66,6 +66,7 @@ pub record FoldersAre {A B : Type 0} (plans : List ChannelPlan) (shares : List (
   pub on : (place : ℕ) (plan : ChannelPlan) (s : EitherShared A B) (path : List ℕ) → place < length plans → folder_of (get_or plans place plan).kind ≡ Some path → IsDisk (get_or shares place s)
   pub of : (place : ℕ) (s : EitherShared A B) → place < length plans → IsDisk (get_or shares place s) → (path : List ℕ) × ((plan : ChannelPlan) → folder_of (get_or plans place plan).kind ≡ Some path)
 
+-- of a plan's channels that were opened those are on a disk that the plan has in folders
 pub folders_are : {A B : Type 0} (uses : List ℕ) (plans : List ChannelPlan) (wishes : List ChannelWish) (cs : List (OpenedChannel A B)) (a b : HostTold) (shares : List (EitherShared A B))
     → AreWishes uses plans wishes → AreOpened wishes cs a b → shares ≡ map (λ (c : OpenedChannel A B). c.share) cs → FoldersAre plans shares
 folders_are {A} {B} uses plans wishes cs a b shares wanted opened same =
@@ -91,6 +92,7 @@ folders_are {A} {B} uses plans wishes cs a b shares wanted opened same =
 
 -- ---- what is so of all calls of some channel
 
+-- what is so of some channel in a folder has what follows of it
 pub in_some : {P Q : View → Type 0} (plans : List ChannelPlan) (finals : List Known) → ((v : View) → P v → Q v) → SomeInFolder P plans finals → SomeInFolder Q plans finals
 in_some plans finals step some = record {
   place = some.place;

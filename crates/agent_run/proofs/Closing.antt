@@ -9,6 +9,7 @@ use Rattle.channel_wishes.specs.Places.{AreClosedOf}
 use Rattle.channel_wishes.specs.Opened.{LeftFits}
 
 module _ {A B : Type 0} (disk : A → Opening → List Step → Type 0) (tells : A → Bool) (memory : B → Opening → List Step → Type 0) (tells' : B → Bool) (fits : LeftFits disk tells memory tells') where
+  -- each channel that was closed is on a disk exactly where the shared one was
   pub closed_of : (ss : List (EitherShared A B)) (hs : List Known) (es : List (EitherClosed A B)) → AreClosed (IsClosed disk tells memory tells') ss hs es → AreClosedOf ss es
   closed_of [] [] [] all = tt
   closed_of [] [] (e ∷ es) all = absurd all

@@ -19,6 +19,7 @@ use Rattle.agent_run.proofs.Began.{IsPlacedIn, fresh_base}
 
 -- ---- what was opened comes back
 
+-- channels that were opened, and of which each came back unused, came back with no call made
 pub come_back : {A B : Type 0} (wishes : List ChannelWish) (cs : List (OpenedChannel A B)) (a b c d : HostTold) → AreOpened wishes cs a b → AreUnused wishes cs c d → ComeBack wishes a b c d
 come_back [] [] a b c d opened unused = (opened, unused)
 come_back [] (x ∷ cs) a b c d opened unused = absurd opened
@@ -57,6 +58,7 @@ unused_state folders Memory limits start a b begins unused = back_state [] a b u
 unused_state folders (Folder path) limits start a b begins unused =
     back_state (record { path = string_bytes path; told = unused.0; faults = start.faults } ∷ []) a b unused.1 (let none = begins.faults in omega (arith, none))
 
+-- the host shows the same of itself while channels are opened, and while they come back unused
 pub come_states : (wishes : List ChannelWish) (a b c d : HostTold) → ComeBack wishes a b c d → (b.state ≡ a.state) × (d.state ≡ c.state)
 come_states [] a b c d back = (ap (λ (h : HostTold). h.state) back.0, ap (λ (h : HostTold). h.state) back.1)
 come_states (wish ∷ wishes) a b c d back =
@@ -75,6 +77,7 @@ pub record IsSameRolls (f g : Folders) : Type 0 where
 same_rolls : (a b : HostTold) → b ≡ a → IsSameRolls a.folders b.folders
 same_rolls a b same = record { told = ap (λ (h : HostTold). h.folders.rolls) same; mark = ap (λ (h : HostTold). h.folders.roll_opened) same }
 
+-- over two steps that change no folder of rolled files, none has changed
 pub rolls_then : (f g h : Folders) → IsSameRolls f g → IsSameRolls g h → IsSameRolls f h
 rolls_then f g h first second = record { told = second.told ∙ first.told; mark = second.mark ∙ first.mark }
 
@@ -91,6 +94,7 @@ refuses_rolls Memory capacity a b cause refuses = same_rolls a b refuses.1
 refuses_rolls (Folder path) capacity a b cause (inl none) = record { told = ap (λ (f : Folders). f.rolls) none.folders; mark = ap (λ (f : Folders). f.roll_opened) none.folders }
 refuses_rolls (Folder path) capacity a b cause (inr back) = record { told = back.others.rolls; mark = back.others.rolls_opened }
 
+-- no folder of rolled files changes while channels are opened, nor while they come back unused
 pub come_rolls : (wishes : List ChannelWish) (a b c d : HostTold) → ComeBack wishes a b c d → IsSameRolls a.folders b.folders × IsSameRolls c.folders d.folders
 come_rolls [] a b c d back = (same_rolls a b back.0, same_rolls c d back.1)
 come_rolls (wish ∷ wishes) a b c d back =
@@ -99,6 +103,7 @@ come_rolls (wish ∷ wishes) a b c d back =
       rolls_then c.folders back.1.folders d.folders rest.1 (unused_rolls wish.place back.2 back.1 d back.6),
     )
 
+-- nor does one where a channel is refused
 pub refused_rolls : (wishes : List ChannelWish) (a b : HostTold) (place : ℕ) (cause : OpenCause) → RefusesAt wishes a b place cause → IsSameRolls a.folders b.folders
 refused_rolls wishes a b place cause r =
     let come = come_rolls r.front a r.come r.left b r.others in
@@ -110,6 +115,7 @@ refused_rolls wishes a b place cause r =
 same_disk : (path : List ℕ) (a b : HostTold) → b ≡ a → IsSameDisk path a.folders b.folders
 same_disk path a b same = record { told = ap (λ (h : HostTold). h.folders.disks path) same; mark = ap (λ (h : HostTold). h.folders.disk_opened path) same }
 
+-- over two steps that leave the disk of a path as it was, it is as it was
 pub disk_then : (path : List ℕ) (f g h : Folders) → IsSameDisk path f g → IsSameDisk path g h → IsSameDisk path f h
 disk_then path f g h first second = record { told = second.told ∙ first.told; mark = second.mark ∙ first.mark }
 
@@ -145,6 +151,7 @@ refuses_else path (Folder folder) capacity a b cause other (inr back) =
 abbrev pub AreElse : List ℕ → List ChannelWish → Type 0
 AreElse path wishes = (i : ℕ) (w : ChannelWish) → i < length wishes → IsPlacedIn (get_or wishes i w).place path → ⊥
 
+-- the disk of a path that is not wanted stays as it was while channels are opened, and while they come back unused
 pub come_else : (path : List ℕ) (wishes : List ChannelWish) (a b c d : HostTold) → AreElse path wishes → ComeBack wishes a b c d → IsSameDisk path a.folders b.folders × IsSameDisk path c.folders d.folders
 come_else path [] a b c d none back = (same_disk path a b back.0, same_disk path c d back.1)
 come_else path (wish ∷ wishes) a b c d none back =
@@ -162,13 +169,16 @@ front_else path [] rest none i w low = absurd (omega (arith, low))
 front_else path (wish ∷ front) rest none zero w low = none zero w low
 front_else path (wish ∷ front) rest none (suc i) w low = front_else path front rest (λ j x below. none (suc j) x (omega (arith, below))) i w (omega (arith, low))
 
+-- behind the wishes before it a wish stands at the place of their number
 pub wish_there : (front : List ChannelWish) (wish : ChannelWish) (rest : List ChannelWish) (d : ChannelWish) → get_or (front ++ wish ∷ rest) (length front) d ≡ wish
 wish_there [] wish rest d = refl
 wish_there (w ∷ front) wish rest d = wish_there front wish rest d
 
+-- and that place is within the whole list
 pub wish_below : (front : List ChannelWish) (wish : ChannelWish) (rest : List ChannelWish) → length front < length (front ++ wish ∷ rest)
 wish_below front wish rest = let many = length-append front (wish ∷ rest) in omega (arith, many)
 
+-- the disk of a path that is not wanted stays as it was where a channel is refused
 pub refused_else : (path : List ℕ) (wishes : List ChannelWish) (a b : HostTold) (place : ℕ) (cause : OpenCause) → AreElse path wishes → RefusesAt wishes a b place cause → IsSameDisk path a.folders b.folders
 refused_else path wishes a b place cause none r =
     let whole = r.front ++ r.wish ∷ r.rest in

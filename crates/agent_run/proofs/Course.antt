@@ -41,6 +41,7 @@ there (x ∷ xs) i below = x
 abbrev pub Stands : {D : Type 0} → (D → Option Told) → (D → ℕ) → D × FileState → Opening → List Step → Type 0
 Stands told faults c = StandsOver (told c.0) (faults c.0) c.1
 
+-- whether the disk of a channel shows its contents
 abbrev pub tells_of : {D : Type 0} → (D → Option Told) → D × FileState → Bool
 tells_of told c = is_some_of (told c.0)
 
@@ -70,33 +71,43 @@ module _ {D M S C : Type 0} (told : D → Option Told) (faults : D → ℕ) (mom
     pub settles : AreSettled Drained (IsKept (Stands told faults) (tells_of told) moment laid pruned) (IsMended (Stands told faults) (tells_of told) moment) (IsClosed (Stands told faults) (tells_of told) memory tells') shares homes workers kept_at_end names settled
 
   module _ (r : Course) where
+    -- as many channels were opened as the plan has
     pub cs_many : length r.cs ≡ length plans
     cs_many = opened_many r.wishes r.cs r.before r.behind r.opened ∙ r.wanted.many
 
+    -- as many were shared among the workers
     pub shares_many : length r.shares ≡ length plans
     shares_many = ap length r.same_shares ∙ length-map r.cs (λ (c : OpenedChannel (D × FileState) M). c.share) ∙ cs_many
 
+    -- they have as many passes at home
     pub firsts_many : length r.firsts ≡ length plans
     firsts_many = ap length r.same_firsts ∙ length-map r.cs (λ (c : OpenedChannel (D × FileState) M). c.home) ∙ cs_many
 
+    -- there are as many after the join
     pub homes_many : length r.homes ≡ length plans
     homes_many = r.took.as_many ∙ firsts_many
 
+    -- as many after the drainings
     pub drained_many : length r.settles.drained ≡ length plans
     drained_many = r.settles.goes_on.as_many ∙ homes_many
 
+    -- as many once channels were kept
     pub kept_many : length r.settles.kept ≡ length plans
     kept_many = r.settles.keeps.as_many ∙ drained_many
 
+    -- as many once they were mended
     pub mended_many : length r.settles.mended ≡ length plans
     mended_many = r.settles.mends.as_many ∙ kept_many
 
+    -- as many once their counts were taken
     pub counted_many : length r.settles.counted ≡ length plans
     counted_many = r.settles.counts.as_many ∙ mended_many
 
+    -- as many channels are named in the report
     pub names_are_many : length r.names ≡ length plans
     names_are_many = names_many plans r.names r.named
 
+    -- as many channels were closed
     pub closed_are_many : length r.settled.closed.items ≡ length plans
     closed_are_many =
         closed_long (IsClosed (Stands told faults) (tells_of told) memory tells') r.shares r.settles.counted r.settled.closed.items r.settles.closed ∙ counted_many
@@ -113,6 +124,7 @@ module _ {D M S C : Type 0} (told : D → Option Told) (faults : D → ℕ) (mom
         (counts_silent name r.settles.mended r.settles.counted r.names r.settled.report.items r.settles.counts).0)).each place d
         (let e = drained_many in omega (arith, below, e))
 
+    -- in the drainings it goes on from the join
     pub from_homes : (place : ℕ) (d : Known) → place < length plans → GoesOn (get_or r.homes place d) (get_or r.settles.drained place d)
     from_homes place d below = r.settles.goes_on.each place d (let e = homes_many in omega (arith, below, e))
 
@@ -125,6 +137,7 @@ module _ {D M S C : Type 0} (told : D → Option Told) (faults : D → ℕ) (mom
         ∙ ap (λ (l : List Known). (get_or l place d).view.base) r.same_firsts
         ∙ ap (λ (p : Known). p.view.base) (get_or-map (λ (o : OpenedChannel (D × FileState) M). o.home) r.cs place c d (let e = cs_many in omega (arith, below, e)))
 
+    -- the channel that is shared at a place is that which was opened there
     pub share_at : (place : ℕ) (s : EitherShared (D × FileState) M) (c : OpenedChannel (D × FileState) M) → place < length plans
         → get_or r.shares place s ≡ (get_or r.cs place c).share
     share_at place s c below =

@@ -110,6 +110,7 @@ module _ {R A B : Type 0} (dial : DialTold A) where
   kind_stays f (plan.Plugin name) (Boxed a) t same of = absurd same
   kind_stays f kind s t same of = absurd of
 
+  -- sinks that stayed the same are of the kinds of their plans, as they were
   pub kinds_stay : (f : Folders) (plans : List SinkPlan) (old new : List (AgentSink R A B)) → Zips IsSameSink old new → AreOfPlans f plans old → AreOfPlans f plans new
   kinds_stay f plans [] [] same are = tt
   kinds_stay f plans [] (t ∷ new) same are = absurd same
@@ -137,6 +138,7 @@ module _ {R A B : Type 0} (dial : DialTold A) where
   dials_stay [] (s ∷ old) (t ∷ new) same are = tt
   dials_stay (p ∷ plans) (s ∷ old) (t ∷ new) same are = (dial_stays p.kind s t same.0 are.0, dials_stay plans old new same.1 are.1)
 
+  -- sinks that stayed the same are as many as before
   pub same_many : (old new : List (AgentSink R A B)) → Zips IsSameSink old new → length new ≡ length old
   same_many [] [] same = refl
   same_many [] (t ∷ new) same = absurd same

@@ -69,6 +69,7 @@ plain_stop seen token batch events (Err turn) own (inl refused) = plain_take see
 plain_stop seen token batch events (Err turn) own (inr memory) = let none = memory.0 in rw none tt
 
 module _ (saw : List Own → State → Type 0) (seen : ℕ) where
+  -- calls that staged nothing leave nothing to be settled or flushed
   pub ends_plain : (earlier own : List Own) → Plain own → EachEnds saw seen earlier own
   ends_plain earlier [] plain = tt
   ends_plain earlier (o ∷ own) plain =
@@ -79,6 +80,7 @@ module _ (saw : List Own → State → Type 0) (seen : ℕ) where
   more_behind (Some t) earlier a b (ending, rest, sure, is, ends) =
       (ending, rest ++ b, sure, ap (λ (l : List Own). l ++ b) is ∙ append_assoc ending rest b, ends)
 
+  -- where each stage of some calls and of those after them has ended, each of all has
   pub ends_then : (earlier a b : List Own) → EachEnds saw seen earlier a → EachEnds saw seen (earlier ++ a) b → EachEnds saw seen earlier (a ++ b)
   ends_then earlier [] b p q = subst (λ (l : List Own). EachEnds saw seen l b) (append-nil earlier) q
   ends_then earlier (o ∷ a) b p q = (
@@ -137,6 +139,7 @@ module _ (saw : List Own → State → Type 0) (seen : ℕ) where
   pub check_ends : (reply : Result (Unit {0}) CheckRefused) (earlier own : List Own) → IsCheck seen reply own → EachEnds saw seen earlier own
   check_ends reply earlier own is = ends_plain earlier own (plain_made seen (is_spent_check reply) (Checkpoint reply) is.0 own refl is.1)
 
+  -- a removal of old files alone
   pub prune_ends : (reply : Result ℕ PruneRefused) (earlier own : List Own) → IsPrune seen reply own → EachEnds saw seen earlier own
   prune_ends reply earlier own is = ends_plain earlier own (plain_made seen (is_spent_prune reply) (Prune reply) is.0 own refl is.1)
 

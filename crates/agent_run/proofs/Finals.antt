@@ -175,6 +175,7 @@ module _ {A B S N I O C K : Type 0} (sink : Told S) (Means : Meaning K) (moments
 module _ {R A B S N I O C K : Type 0} (runs : Runs (EitherPort R A B) S N I O C K) (sink : Told S) (Means : Meaning K) (moments : C → Option (ℕ → ℕ)) (heard : N → Heard) (talk : I → O → Talk)
     (disk : A → Opening → List Step → Type 0) (tells : A → Bool) (moment : A → ℕ) (laid : A → State → Type 0) (pruned : A → Type 0) (memory : B → Opening → List Step → Type 0) (tells' : B → Bool)
     (upkeep : KeepersStayTold runs) (stay : ListenersStayTold runs Means moments heard) (said : LinesStayTold runs Means moments talk) where
+  -- what came back of the workers is told of in full in what the passes had seen at the close
   pub runs_told : RunsAreTold runs sink Means moments heard talk disk tells moment laid pruned memory tells'
   runs_told plans o m homes joined returned settled manned took all back same home named did =
       let shares = m.crew.shares.items in

@@ -49,6 +49,7 @@ placed_in InMemory place path is named = absurd (cc)
 placed_in (File folder max_file interval on_close) Memory path is named = absurd is
 placed_in (File folder max_file interval on_close) (Folder wanted) path is named = let same : string_bytes folder ≡ path = cc in is ∙ same
 
+-- where a channel is wanted in a folder, the plan's channel is in that folder
 pub named_by : (kind : ChannelKind) (place : ChannelPlace) (path : List ℕ) → IsPlaceOf kind place → IsPlacedIn place path → folder_of kind ≡ Some path
 named_by InMemory Memory path is placed = absurd placed
 named_by InMemory (Folder wanted) path is placed = absurd is

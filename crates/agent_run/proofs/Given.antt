@@ -18,15 +18,19 @@ use Rattle.run_staff.specs.declared.workers.LineEnded.{LineEnded}
 abbrev pub IsButTalks : HostState → HostState → Type 0
 IsButTalks old new = new ≡ record old { input = new.input; output = new.output; handed = new.handed; faults = new.faults }
 
+-- where nothing has changed, none but the streams has
 pub talks_self : (s : HostState) → IsButTalks s s
 talks_self s = refl
 
+-- where none but the streams has changed in two steps, none but they has over both
 pub talks_then : (a b c : HostState) → IsButTalks a b → IsButTalks b c → IsButTalks a c
 talks_then a b c f g = g ∙ ap (λ (s : HostState). record s { input = c.input; output = c.output; handed = c.handed; faults = c.faults }) f
 
+-- the listeners are then as they were
 pub same_listeners : (a b : HostState) → IsButTalks a b → b.listeners ≡ a.listeners
 same_listeners a b f = ap (λ (s : HostState). s.listeners) f
 
+-- once the listeners came back as well, none but they, the streams and the count of faults has changed
 pub then_back : (backs : List CameBack) (a b c : HostState) → IsButTalks a b → ListenersBack backs b c → IsButStreams a c
 then_back backs a b c f g =
     let to : c ≡ record a { input = b.input; output = b.output; handed = b.handed; listeners = c.listeners; faults = b.faults } =
@@ -35,6 +39,7 @@ then_back backs a b c f g =
     (sym g.state) to
 
 module _ {A : Type 0} (Step : A → HostState → HostState → Type 0) (but : (a : A) (old new : HostState) → Step a old new → IsButTalks old new) where
+  -- where none but the streams changes in each step, none but they does over all of them
   pub in_turn : (all : List A) (old new : HostState) → InTurn Step all old new → IsButTalks old new
   in_turn [] old new is = subst (λ (s : HostState). IsButTalks old s) (sym is) (talks_self old)
   in_turn (a ∷ all) old new (between, one, others) = talks_then old between new (but a old between one) (in_turn all between new others)

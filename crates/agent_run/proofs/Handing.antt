@@ -33,6 +33,7 @@ committed-append events (o ∷ a) b =
     ap (λ (l : List (List Content)). committed_by events o.call ++ l) (committed-append (taken_behind events o.call) a b)
     ∙ sym (append_assoc (committed_by events o.call) (committed (taken_behind events o.call) a) (committed (taken_since (taken_behind events o.call) a) b))
 
+-- what was taken since the last begin, after some calls and then others, goes on from what the first left
 pub since-append : (events : List Content) (a b : List Own) → taken_since events (a ++ b) ≡ taken_since (taken_since events a) b
 since-append events [] b = refl
 since-append events (o ∷ a) b = since-append (taken_behind events o.call) a b
@@ -111,6 +112,7 @@ walk_commit : (saw : List Own → State → Type 0) (seen : ℕ) (token : Token)
 walk_commit saw seen token result earlier own e counted is =
     rw is.4 (walk_then e e e is.2 is.3 (e ∷ []) [] (walk_stage seen (is_spent_stage is.0) token is.0 is.1 is.2 e counted is.5) (walk_staged saw seen token is.0 (earlier ++ is.2) is.3 result e is.6))
 
+-- a mend commits nothing
 pub mend_commits : (OnDisk : Type 0) (saw : List Own → State → Type 0) (seen : ℕ) (result : Result Bool OpenCause) (earlier own : List Own) (e : List Content)
     → IsMend OnDisk saw seen result earlier own → committed e own ≡ []
 mend_commits OnDisk saw seen (Ok false) earlier own e is = (walk_none e own is.0).commits
@@ -134,6 +136,7 @@ module _ {S : Type 0} (delivers : S → List Content → ℕ → Result (Unit {0
     pub taken : (e : List Content) → AllByRecursion (λ (h : Handed). WasTakenBehind e own h.batch) done
     pub commits : CountsMore seen → (e : List Content) → committed e own ≡ ok_batches done
 
+  -- a sink that stayed as it was was handed nothing, where nothing was committed
   pub hands_none : (seen : ℕ) (own : List Own) (s t : S) → t ≡ s → ((e : List Content) → committed e own ≡ []) → Hands seen own s t
   hands_none seen own s t same none = record { done = []; chain = same; taken = λ e. tt; commits = λ counted e. none e }
 
@@ -166,6 +169,7 @@ module _ {S : Type 0} (delivers : S → List Content → ℕ → Result (Unit {0
   ok-append [] y = refl
   ok-append (h ∷ x) y = ap (λ (l : List (List Content)). ok_of h.answer h.batch ++ l) (ok-append x y) ∙ sym (append_assoc (ok_of h.answer h.batch) (ok_batches x) (ok_batches y))
 
+  -- what a sink was handed by some calls and then by those after them it was handed by all of them
   pub hands_then : (seen : ℕ) (a b : List Own) (s m t : S) → Hands seen a s m → Hands seen b m t → Hands seen (a ++ b) s t
   hands_then seen a b s m t p q = record {
     done = p.done ++ q.done;

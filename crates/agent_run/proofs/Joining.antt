@@ -36,6 +36,7 @@ zips_long R (a ∷ xs) (b ∷ ys) z = ap suc (zips_long R xs ys z.1)
 
 module _ {R A B S N I O C K : Type 0} (does : Runs (EitherPort R A B) S N I O C K) (sink : Told S) (Means : Meaning K) (moments : C → Option (ℕ → ℕ)) (heard : N → Heard) (talk : I → O → Talk)
     (shares : List (EitherShared A B)) (homes : List Known) (jobs : Workers Known S N I O C K) (returned : Returned S N I O C) where
+  -- where there was memory for it the workers ran, and else each came back as it was
   pub are_back : (r : Result (Unit {0}) AllocError) → OnOk r (HaveRun does shares homes jobs returned) → OnOk r (Zips (IsSinkTold sink moments shares homes) jobs.sinks.items returned.sinks.items)
       → OnOk r (Zips (IsListenTold Means moments heard shares homes) jobs.listeners.items returned.listeners.items)
       → OnOk r (Zips (IsLineTold Means moments talk shares homes) jobs.lines.items returned.lines.items) → OnErr r (AreEnded (λ p. p) homes jobs returned)

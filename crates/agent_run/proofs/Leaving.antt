@@ -101,6 +101,7 @@ use Rattle.run_working.proofs.Zipping.{zips_map, zips_then}
 abbrev pub IsSameChannel : {S C : Type 0} → SinkWorker Known S C → SinkWorker AtHome S C → Type 0
 IsSameChannel job back = back.channel ≡ job.channel
 
+-- each sink that came back is of the same channel as before
 pub returned_channels : {R A B S N I O C K : Type 0} (runs : Runs (EitherPort R A B) S N I O C K) (sink : Told S) (Means : Meaning K) (moments : C → Option (ℕ → ℕ)) (heard : N → Heard) (talk : I → O → Talk)
     (shares : List (EitherShared A B)) (homes : List Known) (jobs : Workers Known S N I O C K) (returned : Returned S N I O C)
     → HaveReturned runs sink Means moments heard talk shares homes jobs returned → Zips IsSameChannel jobs.sinks.items returned.sinks.items

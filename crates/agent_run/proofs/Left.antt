@@ -56,6 +56,7 @@ module _ {D : Type 0} (told : D → Option Told) (faults : D → ℕ) where
 
 -- ---- what is so of each closed channel
 
+-- as many channels were closed as there are passes at home
 pub closed_long : {S E : Type 0} (Is : S → Known → E → Type 0) (ss : List S) (hs : List Known) (es : List E) → AreClosed Is ss hs es → length es ≡ length hs
 closed_long Is [] [] [] all = refl
 closed_long Is [] [] (y ∷ es) all = absurd all
@@ -64,6 +65,7 @@ closed_long Is (x ∷ ss) [] es all = absurd all
 closed_long Is (x ∷ ss) (p ∷ hs) [] all = absurd all
 closed_long Is (x ∷ ss) (p ∷ hs) (y ∷ es) all = ap suc (closed_long Is ss hs es all.1)
 
+-- what is so of each channel that was closed is so of that at a place
 pub closed_at : {S E : Type 0} (Is : S → Known → E → Type 0) (ss : List S) (hs : List Known) (es : List E) → AreClosed Is ss hs es → (place : ℕ) (s : S) (h : Known) (e : E) → place < length hs
     → Is (get_or ss place s) (get_or hs place h) (get_or es place e)
 closed_at Is ss [] es all place s h e below = absurd (omega (arith, below))
@@ -81,6 +83,7 @@ seen_run stands tells c w v same is =
     subst (λ (x : View). IsRun x.base.tells (opening x.base) x.seen) same (subst (λ (b : Bool). IsRun b (opening w.base) w.seen) (sym is.same) is.run)
 
 module _ {A B : Type 0} (disk : A → Opening → List Step → Type 0) (tells : A → Bool) (memory : B → Opening → List Step → Type 0) (tells' : B → Bool) where
+  -- the passes that came back are those at home, as they are once their channels are closed
   pub finals_are : (ss : List (EitherShared A B)) (hs : List Known) (es : List (EitherClosed A B)) → AreClosed (IsClosed disk tells memory tells') ss hs es → map pass_of es ≡ map at_rest hs
   finals_are [] [] [] all = refl
   finals_are [] [] (e ∷ es) all = absurd all
@@ -99,6 +102,7 @@ module _ {A B : Type 0} (disk : A → Opening → List Step → Type 0) (tells :
     pub stands : StandsAgreeing disk of.channel home.view.base home.view.seen
     pub run : IsRun (tells of.channel) (opening home.view.base) home.view.seen
 
+  -- a channel on a disk that was closed stands for all its calls, answered as the machine answers them
   pub disk_left : (s : EitherShared A B) (home : Known) (e : EitherClosed A B) → IsDisk s → IsClosed disk tells memory tells' s home e → IsDiskLeft home e
   disk_left (share.Disk s) home (closed.Disk c) on is = record {
     of = c;
@@ -116,6 +120,7 @@ module _ {A B : Type 0} (disk : A → Opening → List Step → Type 0) (tells :
   left_run (share.Memory s) home (closed.Disk c) is = absurd is.channel
   left_run (share.Memory s) home (closed.Memory c) is = seen_run memory tells' c.channel c.pass.view home.view is.view is.left.seen
 
+  -- each call of a channel that was closed was made by one of its passes
   pub left_below : (s : EitherShared A B) (home : Known) (e : EitherClosed A B) → IsClosed disk tells memory tells' s home e → Below home.view.passes home.view.seen
   left_below (share.Disk s) home (closed.Disk c) is = subst (λ (v : View). Below home.view.passes v.seen) is.view is.left.made.4
   left_below (share.Disk s) home (closed.Memory c) is = absurd is.channel

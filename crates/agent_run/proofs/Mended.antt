@@ -18,6 +18,7 @@ use Rattle.run_tracks.specs.Stops.{AreMended, IsMended}
 use Rattle.agent_run.proofs.WellEnded.{IsWell}
 
 module _ {A : Type 0} (disk : A → Opening → List Step → Type 0) (tells : A → Bool) (moment : A → ℕ) where
+  -- a channel that a mend has opened again is not broken
   pub whole_reopened : (v w : View) (by : ℕ) (reply : Result (Unit {0}) OpenCause) → Ok true ≡ mended reply → Reopens disk tells moment v by reply w → (state_seen w).broken ≡ false
   whole_reopened v w by (Ok done) same did =
       let made = did.1.0.1.made in

@@ -21,6 +21,7 @@ use Rattle.agent_run.specs.RolledTold.{calls_of}
 use Rattle.agent_run.proofs.Course.{there}
 use Rattle.agent_run.proofs.Sharing.{Part, RowsShared}
 
+-- where two that are there are the same, so is what they hold
 pub some_same : {A : Type 0} (x y : A) → Some x ≡ Some y → x ≡ y
 some_same x y is = cc
 
@@ -48,6 +49,7 @@ in_places place (p ∷ places) rest (inr is) = by (in_places place places rest i
     by (inl here) = inl (suc here.0, here.1)
     by (inr more) = inr more
 
+-- each place that the rows have is found in one of them
 pub find_row : (rows : List SinkRow) (place : ℕ) → IsAmong place (places_of rows) → Found rows place
 find_row [] place is = absurd is
 find_row (row ∷ rows) place is = by (find_row rows place) (in_places place row.places.items (places_of rows) is)
@@ -79,6 +81,7 @@ in_row sinks (r ∷ rows) (q ∷ runners) z zero row runner below i place is =
     let p = picked_at sinks r.places.items (members_of q) z.0 i place is in record { sink = p.0; here = p.1; member = p.2 }
 in_row sinks (r ∷ rows) (q ∷ runners) z (suc at) row runner below i place is = in_row sinks rows runners z.1 at row runner (omega (arith, below)) i place is
 
+-- the first of a list, where there is something
 pub first_of : {A : Type 0} (xs : List A) (i : ℕ) → i < length xs → A
 first_of [] i low = absurd (omega (arith, low))
 first_of (x ∷ xs) i low = x
@@ -102,6 +105,7 @@ members_stay sinks (row ∷ rows) (a ∷ olds) (b ∷ news) z many is = (
   members_stay sinks rows olds news z.1 (omega (arith, many)) (λ k x y low. is (suc k) x y (omega (arith, low))),
 )
 
+-- as many runners as rows
 pub runners_many : {S N : Type 0} (sinks : List S) (rows : List SinkRow) (runners : List (Runner S N)) → AreDealt sinks rows runners → length runners ≡ length rows
 runners_many sinks [] [] z = refl
 runners_many sinks [] (q ∷ runners) z = absurd z
@@ -116,6 +120,7 @@ dealt_many sinks (r ∷ rows) [] z at row runner below = absurd z
 dealt_many sinks (r ∷ rows) (q ∷ runners) z zero row runner below = picked_many sinks r.places.items (members_of q) z.0
 dealt_many sinks (r ∷ rows) (q ∷ runners) z (suc at) row runner below = dealt_many sinks rows runners z.1 at row runner (omega (arith, below))
 
+-- after a run each row's runner has a sink for each place of the row
 pub have_members : {S N A B C : Type 0} (one : S → List Content → ℕ → Result (Unit {0}) SinkRefused → S → Type 0) (sink : Told (Runner S N)) (moments : C → Option (ℕ → ℕ)) (split : RunnersSplit one sink.delivers)
     (shares : List (EitherShared A B)) (finals : List Known) (sinks : List S) (rows : List SinkRow) (jobs : List (SinkWorker Known (Runner S N) C)) (runners : List (Runner S N))
     (shared : RowsShared one sink moments split shares finals jobs runners) → AreDealt sinks rows (map (λ (job : SinkWorker Known (Runner S N) C). job.sink) jobs) → length jobs ≡ length rows → HaveMembers rows runners
@@ -156,6 +161,7 @@ module _ {S N A B C : Type 0} (one : S → List Content → ℕ → Result (Unit
     pub is : slice_get backs place ≡ Some new
     pub part : Part one (calls_of finals (get_or jobs at job)) (taken_at i (get_or shared.taken at took)) old new
 
+  -- the sink at each place of a row was handed what the row's worker had taken, and took its own of it
   pub part_at : (at i place : ℕ) (row : SinkRow) (job : SinkWorker Known (Runner S N) C) (took : List (ℕ × List Content)) → at < length rows
       → slice_get (get_or rows at row).places.items i ≡ Some place → PartAt at i place job took
   part_at at i place row job took below here =

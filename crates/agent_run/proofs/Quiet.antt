@@ -49,9 +49,11 @@ pub record IsQuiet (v w : View) : Type 0 where
   pub whole : v.seen ++ rest ≡ w.seen
   pub none : NonePuts (calls_by v.numbers rest)
 
+-- where nothing further was seen, no further call puts
 pub quiet_self : (v : View) → IsQuiet v v
 quiet_self v = record { base = refl; passes = refl; numbers = refl; rest = []; whole = append-nil v.seen; none = tt }
 
+-- where no further call puts in two steps, none does over both
 pub quiet_then : (u v w : View) → IsQuiet u v → IsQuiet v w → IsQuiet u w
 quiet_then u v w f g = record {
   base = g.base ∙ f.base;
@@ -90,6 +92,7 @@ under_own ns n (x ∷ h) s all none = by (has ns x.pass) all (λ rest. under_own
         ((subst (λ (b : Bool). PutNone (own_if b o more)) mine none).0, others all.1)
 
 module _ {S C : Type 0} (sink : Told S) (moments : C → Option (ℕ → ℕ)) where
+  -- a draining puts nothing into the channel that it drains
   pub drained_quiet : (w : SinkWorker AtHome S C) (old : Known) (end : ChannelDrain) (back : S) (new : Known) → has old.view.numbers w.port.number ≡ true
       → IsDrainedHome sink moments w old end back new → IsQuiet old.view new.view
   drained_quiet w old end back new mine did =
@@ -115,6 +118,7 @@ module _ {S C : Type 0} (sink : Told S) (moments : C → Option (ℕ → ℕ)) w
         none = under_own old.view.numbers n rest (state_after start old.view.seen) did.later.under (subst PutNone (sym same) drew.none);
       }
 
+  -- nor into the channel at any other place
   pub quiet_at : (w : SinkWorker AtHome S C) (old : List Known) (end : ChannelDrain) (back : S) (new : List Known) → IsSinkHome old w → IsDrainedAt sink moments w old end back new
       → (place : ℕ) (d : Known) → IsQuiet (get_or old place d).view (get_or new place d).view
   quiet_at w old end back new at did place d = dite (ℕ_discrete w.channel place)
@@ -156,6 +160,7 @@ module _ {A : Type 0} (disk : A → Opening → List Step → Type 0) (tells : A
     kept_if_quiet s true p q is = kept_quiet s p.view q.view p.number is.keeps
     kept_if_quiet s false p q same = subst (λ (k : Known). IsQuiet p.view k.view) (sym same) (quiet_self p.view)
 
+  -- a mend puts nothing
   pub mended_quiet : {B : Type 0} (s : EitherShared A B) (v w : View) (by : ℕ) (result : Result Bool OpenCause) → MendsIn disk tells moment s v by result w → IsQuiet v w
   mended_quiet (share.Disk s) v w by (Ok false) is = made_quiet v w [] tt is.0.1.made
   mended_quiet (share.Disk s) v w by (Ok true) is = answered_quiet (is_spent_open is.0) v w by (Reopen (reopen_reply is.0 is.1.0)) tt is.1.1

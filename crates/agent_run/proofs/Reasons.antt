@@ -27,13 +27,13 @@ use Rattle.run_tracks.specs.Places.{Zips}
 use Rattle.channel_wishes.specs.Openings.{HostTold}
 use Rattle.channel_wishes.specs.declared.opened.OpenedChannel.{OpenedChannel}
 use Rattle.channel_wishes.specs.declared.wish.ChannelWish.{ChannelWish}
-use Rattle.agent_commands.specs.Piped.{cause_status}
 use Rattle.agent_end.specs.Statuses.{drain_status, mend_status, report_status, run_status}
 use Rattle.agent_end.specs.declared.ends.InputEnd.{InputEnd}
 use Rattle.agent_end.specs.declared.ends.InputEnd.TheVariants as input
 use Rattle.agent_end.specs.declared.ends.ReportRefused.{ReportRefused}
 use Rattle.agent_end.specs.declared.ends.ReportRefused.TheVariants as report
 use Rattle.agent_end.specs.declared.ends.RunEnds.{RunEnds}
+use Rattle.agent_words.specs.Statuses.{cause_status}
 use Rattle.agent_run.specs.Causes.{CausesTold, IsCutBy, IsReadable, IsTaken, IsSpent, SomeInFolder, SomeIsLeft, line_limit}
 use Rattle.run_settling.specs.Draining.{IsDrainedAt}
 use Rattle.agent_run.specs.Errors.{IsRunStatus}
@@ -255,6 +255,7 @@ module _ {R A B S N I O C K : Type 0} (runs : Runs (EitherPort R A B) S N I O C 
         (left_some (IsDrainedAt sink moments) disk tells moment laid pruned memory tells' plan.channels.items r.manned.crew.shares.items r.homes r.joined.sinks.items r.manned.closes.items r.manned.settled.report.items r.settled r.settles
         folders homes_many r.named (subst (SomeIsLeft (λ c. cause_status c ≡ 4) plan.channels.items) r.passes some)))
 
+    -- the status of a run has its cause in standard input, the count of faults, or a channel that is left broken
     pub run_causes : CausesTold plan (run_status ends) (passes_of channels) a.state b.state
     run_causes = record {
       fault = fault_left;

@@ -10,10 +10,9 @@ use Rattle.channel_face.specs.declared.replies.OpenCause.TheVariants as causes
 use Rattle.agent_plan.specs.declared.plan.ChannelKind.{ChannelKind}
 use Rattle.agent_plan.specs.declared.plan.ChannelKind.TheVariants.{File, Memory}
 use Rattle.agent_plan.specs.declared.plan.Plan.{Plan}
-use Rattle.agent_words.specs.Statuses.{status_of}
+use Rattle.agent_words.specs.Statuses.{cause_status, status_of}
 use Rattle.agent_words.specs.declared.error.RunError.{RunError}
 use Rattle.agent_words.specs.declared.error.RunError.TheVariants as errors
-use Rattle.agent_commands.specs.Piped.{cause_status}
 use Rattle.agent_commands.specs.Stored.{IsOfFolder}
 use Rattle.channel_wishes.specs.Openings.{GivesBack, HandsNone, HostTold, Refuses}
 use Rattle.channel_wishes.specs.Opened.{AreOpened}
@@ -33,6 +32,7 @@ use Rattle.agent_run.proofs.Comeback.{come_back, come_states}
 
 -- ---- which step it was
 
+-- a run that was not prepared, by its error: the host failed or memory ran out, and no folder was touched
 pub not_prepared : (error : RunError) (a b : HostTold) → IsUnprepared error a.state b.state → b.folders ≡ a.folders → NotPrepared (status_of error) a b
 not_prepared error a b un folders = record { why = which un.why; state = un.state; folders = folders }
   where
@@ -47,11 +47,13 @@ no_room a b same folders =
     let faults : b.state.faults ≡ a.state.faults = ap (λ (s : HostState). s.faults) same in
     record { why = inr (refl, faults); state = same ∙ ap (λ (n : ℕ). record a.state { faults = n }) (sym faults); folders = folders }
 
+-- the error of a channel that was not opened has the status of its cause, or that of out of memory
 pub cause_is : (kind : ChannelKind) (cause : OpenCause) (error : RunError) → IsCauseError kind cause error → IsCauseStatus cause (status_of error)
 cause_is Memory cause error is = inr (ap status_of is)
 cause_is (File folder max_file interval on_close) cause error (inl is) = inl is
 cause_is (File folder max_file interval on_close) cause error (inr none) = inr (ap status_of none)
 
+-- where a wanted channel was refused, it is that which kept the run from beginning
 pub channel_refused : (plan : Plan) (kind : ChannelKind) (wishes at : List ChannelWish) (a a' b : HostTold) (place : ℕ) (cause : OpenCause) (error : RunError) → AreWanted plan wishes → at ≡ wishes → a' ≡ a
     → RefusesAt at a' b place cause → IsCauseError kind cause error → ChannelNotOpened plan (status_of error) a b
 channel_refused plan kind wishes at a a' b place cause error wanted same first refused is = record {
@@ -63,6 +65,7 @@ channel_refused plan kind wishes at a a' b place cause error wanted same first r
   is = cause_is kind cause error is;
 }
 
+-- where something outside the channels was refused while they were open, it is that which did
 pub outside_refused : {A B : Type 0} (plan : Plan) (at : List ℕ) (wishes : List ChannelWish) (cs : List (OpenedChannel A B)) (error : RunError) (a m b : HostTold) → AreWanted plan wishes
     → at ≡ places 0 plan.sources.items → AreOpened wishes cs a m → IsRefusedOutside plan at wishes cs error m b → OutsideNotOpened plan (status_of error) a b
 outside_refused plan at wishes cs error a m b wanted same opened r = record {
@@ -110,6 +113,7 @@ not_two_or_four status (inl three) (inr four) = absurd (omega (arith, three, fou
 not_two_or_four status (inr five) (inl two) = absurd (omega (arith, five, two))
 not_two_or_four status (inr five) (inr four) = absurd (omega (arith, five, four))
 
+-- where there is no plan, the host is as it was but for its count of faults
 pub plan_host : (lacks : Lacking) (file : Option (List ℕ)) (agent : List ℕ) (status : ℕ) (a b : HostTold) → NoPlan lacks file agent status a b → LeavesHost status a.state b.state
 plan_host lacks file agent status a b none =
     let n = none.why.state.0 in
@@ -169,6 +173,7 @@ by_fault (causes.OverCapacity count) is = absurd (omega (arith, is))
 by_fault (causes.Spent counter) is = absurd (omega (arith, is))
 by_fault causes.NoMemory is = absurd (omega (arith, is))
 
+-- where the status of a cause is 4, the folder itself is the cause
 pub by_folder : (cause : OpenCause) → cause_status cause ≡ 4 → IsOfFolder cause
 by_folder causes.DiskFault is = absurd (omega (arith, is))
 by_folder (causes.BadCheck file at) is = tt
@@ -185,6 +190,7 @@ never_two (causes.OverCapacity count) is = absurd (omega (arith, is))
 never_two (causes.Spent counter) is = absurd (omega (arith, is))
 never_two causes.NoMemory is = absurd (omega (arith, is))
 
+-- a channel that was not opened gives the status 3, 4 or 5
 pub cause_which : (cause : OpenCause) (status : ℕ) → IsCauseStatus cause status → (status ≡ 3) ⊎ (status ≡ 4) ⊎ (status ≡ 5)
 cause_which cause status (inr five) = inr (inr five)
 cause_which causes.DiskFault status (inl is) = inl is
@@ -198,6 +204,7 @@ cause_which causes.NoMemory status (inl is) = inr (inr is)
 not_both : (cause : OpenCause) → cause ≡ causes.DiskFault → cause ≡ causes.NoMemory → ⊥
 not_both cause fault none = let e : 3 ≡ 5 = sym (ap cause_status fault) ∙ ap cause_status none in absurd (omega (arith, e))
 
+-- a fault of the disk is not of the folder itself, nor is a lack of memory
 pub no_folder : (cause : OpenCause) → IsOfFolder cause → (cause ≡ causes.DiskFault) ⊎ (cause ≡ causes.NoMemory) → ⊥
 no_folder cause of (inl fault) = subst IsOfFolder fault of
 no_folder cause of (inr none) = subst IsOfFolder none of
@@ -296,6 +303,7 @@ channel_host plan status a b not =
 
 -- ---- by what is outside the channels
 
+-- what is refused outside the channels gives the status 3 or 5
 pub outside_status : (why : NameRefused) (status : ℕ) → status ≡ status_of (error_of why) → (status ≡ 3) ⊎ (status ≡ 5)
 outside_status Failed status is = inl is
 outside_status NoMemory status is = inr is
@@ -333,6 +341,7 @@ outside_host plan status a b not =
 
 -- ---- by any of them
 
+-- where a run was refused, the host is as it was but for what came back and its counts of faults
 pub refused_host : (plan : Plan) (status : ℕ) (a b : HostTold) → IsRunRefused plan status a b → LeavesHost status a.state b.state
 refused_host plan status a b (inl not) = prepared_host status a b not
 refused_host plan status a b (inr (inl not)) = channel_host plan status a b not

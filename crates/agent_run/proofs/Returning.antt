@@ -38,6 +38,7 @@ report_fault false text (Err report.Fault) old new is failed = inr is.1
 report_fault false text (Err report.NoMemory) old new is failed = absurd (cc)
 
 module _ {R D A B G : Type 0} (rolled : R → Option Rolled) (dial : DialTold A) (told : D → Option Told) (faults : D → ℕ) (plans : List SinkPlan) where
+  -- once all was given back the input is as it was; where the report failed, the output had, or a fault was counted
   pub gone_back : (rows : List SinkRow) (wishes : List ChannelWish) (settled : Settled (Runner (AgentSink R A B) G) (D × FileState) MemoryChannel) (failed : Bool)
       (answer : Result (Unit {0}) ReportRefused) (old new : HostTold) → IsGivenBack rolled dial told faults plans rows wishes settled failed answer old new → GoesBack failed answer old.state new.state
   gone_back rows wishes settled failed answer old new is =

@@ -144,6 +144,7 @@ module _ {R P Q : Type 0} (rolled : R → Option Rolled) where
       skip plan.kind e (backs_of rolled plans sinks) path before (first 0 (omega arith))
       ∙ told_at plans sinks place d t path before (omega (arith, low)) (omega (arith, under)) has is (λ i lower. first (suc i) (omega (arith, lower)))
 
+-- the sink at each place is of the kind of its plan
 pub kind_at : {R P Q : Type 0} (folders : Folders) (plans : List SinkPlan) (sinks : List (AgentSink R P Q)) → AreOfPlans folders plans sinks → (place : ℕ) (d : SinkPlan) (e : AgentSink R P Q)
     → place < length sinks → IsOfKind folders (get_or plans place d).kind (get_or sinks place e)
 kind_at folders plans [] all place d e below = absurd (omega (arith, below))

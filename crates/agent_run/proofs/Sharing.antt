@@ -47,6 +47,7 @@ module _ {S : Type 0} (one : S → List Content → ℕ → Result (Unit {0}) Si
           → Part (calls_of finals job) (taken_at at taken) (get_or (members_of job.sink) at old) (get_or (members_of back) at new)
 
   module _ {N A B C : Type 0} (sink : Told (Runner S N)) (moments : C → Option (ℕ → ℕ)) (split : RunnersSplit one sink.delivers) (shares : List (EitherShared A B)) (finals : List Known) where
+    -- each batch whose commit a row's worker asked for was taken by one of the row's sinks
     pub row_shared : (job : SinkWorker Known (Runner S N) C) (end : ChannelDrain) (back : Runner S N) → IsSinkWhole sink moments shares finals job end back → EitherShared A B
         → RowShared finals job back
     row_shared job end back is share =
@@ -70,6 +71,7 @@ module _ {S : Type 0} (one : S → List Content → ℕ → Result (Unit {0}) Si
       pub each : (at : ℕ) (job : SinkWorker Known (Runner S N) C) (back : Runner S N) (took : List (ℕ × List Content)) → at < length jobs
           → (row : RowShared finals (get_or jobs at job) (get_or backs at back)) × (get_or taken at took ≡ row.taken)
 
+    -- so it is of all rows
     pub rows_shared : (jobs : List (SinkWorker Known (Runner S N) C)) (ends : List ChannelDrain) (backs : List (Runner S N)) → ((place : ℕ) → place < length ends → EitherShared A B)
         → AreBeside (IsSinkWhole sink moments shares finals) jobs ends backs → RowsShared jobs backs
     rows_shared [] [] [] some whole = record { taken = []; as_many = refl; many = refl; each = λ at job back took low. absurd (omega (arith, low)) }

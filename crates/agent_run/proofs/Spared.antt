@@ -187,6 +187,7 @@ outside_folders plan status a b not = record {
 
 -- ---- by any of them
 
+-- a run that was refused has changed no folder but those of its channels, and at 4 one of these is the cause
 pub refused_folders : (plan : Plan) (status : ℕ) (a b : HostTold) → FoldersAreApart plan.channels.items → IsRunRefused plan status a b → LeavesFolders plan status a.folders b.folders
 refused_folders plan status a b apart (inl not) =
     folders_same plan status a.folders b.folders (λ four. elim not.why [

@@ -55,6 +55,7 @@ no_length (x ∷ xs) none = absurd (omega arith)
 is_some : {A : Type 0} (x : A) (xs ys : List A) → ys ≡ x ∷ xs → ys ≡ [] → ⊥
 is_some x xs ys is none = let e = ap length (sym is ∙ none) in omega arith
 
+-- where the reading of standard input came to its end, the session did
 pub ends_at_end : EndsAtEnd
 ends_at_end session.End is = refl
 ends_at_end session.TooLongLine is = absurd cc
@@ -101,6 +102,7 @@ module _ {I O : Type 0} (left : I → Option (List ℕ)) (read_faults : I → �
 
 module _ {R A B S N I O C K : Type 0} (runs : Runs (EitherPort R A B) S N I O C K) (Means : Meaning K) (moments : C → Option (ℕ → ℕ))
     (left : I → Option (List ℕ)) (read_faults : I → ℕ) (took handed : O → Option (List ℕ)) (write_faults : O → ℕ) where
+  -- the one worker of lines had its dialogue with the host, whose end is what ended the reading of standard input
   pub lines_are_answered : LinesAreAnswered runs Means moments left read_faults took handed write_faults
   lines_are_answered shares homes seen jobs returned job old begun between new one taken ran told drains lines =
       let Told = IsLineTold Means moments (talk_of left read_faults took handed write_faults) shares seen in
@@ -148,6 +150,7 @@ module _ {I : Type 0} (left : I → Option (List ℕ)) (read_faults : I → ℕ)
 
 module _ {R A B S N I O C K : Type 0} (runs : Runs (EitherPort R A B) S N I O C K) (sink : Told S) (Means : Meaning K) (moments : C → Option (ℕ → ℕ)) (heard : N → Heard)
     (left : I → Option (List ℕ)) (read_faults : I → ℕ) (took handed : O → Option (List ℕ)) (write_faults : O → ℕ) where
+  -- where the reading of standard input did not end for lack of memory, the workers ran
   pub ran_unless : RanUnlessNoMemory runs sink Means moments heard left read_faults took handed write_faults
   ran_unless shares homes jobs returned old begun taken (inl told) not = told
   ran_unless shares homes jobs returned old begun taken (inr idle) not =
@@ -182,6 +185,7 @@ ends_only input.Full more is =
 
 module _ {R A B S N I O C K : Type 0} (runs : Runs (EitherPort R A B) S N I O C K) (sink : Told S) (Means : Meaning K) (moments : C → Option (ℕ → ℕ)) (heard : N → Heard)
     (left : I → Option (List ℕ)) (read_faults : I → ℕ) (took handed : O → Option (List ℕ)) (write_faults : O → ℕ) where
+  -- at status 0 the workers ran, and the one of lines had its dialogue to the end of standard input
   pub ends_well : EndsWell runs sink Means moments heard left read_faults took handed write_faults
   ends_well shares homes jobs returned old begun between new ends taken back drains lines same zero =
       let others = report_status ends.report ∷ map drain_status ends.drains.items ++ map mend_status ends.mends.items in

@@ -164,6 +164,7 @@ module _ {A B N I O C K : Type 0} (Means : Meaning K) (moments : C → Option (�
   abbrev Owned : List Owner → Type 0
   Owned owners = AllByRecursion (λ (o : Owner). EndsAt finals o.place o.number) owners
 
+  -- what is so of some workers and of others is so of all of them
   pub owned_both : (os ps : List Owner) → Owned os → Owned ps → Owned (os ++ ps)
   owned_both [] ps a b = b
   owned_both (o ∷ os) ps a b = (a.0, owned_both os ps a.1 b)
@@ -186,6 +187,7 @@ module _ {A B N I O C K : Type 0} (Means : Meaning K) (moments : C → Option (�
       (rounds_stay Tidy tidy_self tidy_then Gave tidy_put Means job.selector job.host job.rules TidyMend (λ p q answer t. t) is.made _ _
       (rounds_as (Session job.rules Gave job.selector Means job.host) D is.made _ _ (is.rounds share)))
 
+  -- the workers of all listeners
   pub listens_tidy : (jobs : List (ListenWorker Known N C K)) (listeners : List N) → Zips (IsListenTold Means moments heard shares finals) jobs listeners
       → Owned (flat_map (λ (l : ListenWorker Known N C K). owners_at l.channels.items l.ports.items) jobs)
   listens_tidy [] [] all = tt
@@ -201,6 +203,7 @@ module _ {A B N I O C K : Type 0} (Means : Meaning K) (moments : C → Option (�
       tracks_tidy finals job.channels.items job.ports.items
       (turns_tidy Means job.selector job.host (IsDiskOf shares job.channels.items) share is.session.served.done _ _ is.session.served.takes)
 
+  -- the workers of lines
   pub lines_tidy : (jobs : List (LineWorker Known I O C K)) (backs : List (LineEnded I O)) → Zips (IsLineTold Means moments talk shares finals) jobs backs
       → Owned (flat_map (λ (l : LineWorker Known I O C K). owners_at l.channels.items l.ports.items) jobs)
   lines_tidy [] [] all = tt

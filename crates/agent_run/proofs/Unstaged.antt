@@ -54,6 +54,7 @@ use Rattle.run_working.proofs.Unrun.{none_called}
 
 -- ---- workers
 
+-- each stage of the workers of sinks was settled or flushed
 pub sinks_tidy : {A B S C : Type 0} (sink : Told S) (moments : C → Option (ℕ → ℕ)) (shares : List (EitherShared A B)) (finals : List Known) (some : EitherShared A B)
     (jobs : List (SinkWorker Known S C)) (ends : List ChannelDrain) (backs : List S) → AreBeside (IsSinkWhole sink moments shares finals) jobs ends backs
     → AllByRecursion (λ (o : Owner). EndsAt finals o.place o.number) (sink_owners jobs)
@@ -72,6 +73,7 @@ owned_at P [] i d all below = absurd (omega (arith, below))
 owned_at P (o ∷ owners) zero d all below = all.0
 owned_at P (o ∷ owners) (suc i) d all below = owned_at P owners i d all.1 (omega (arith, below))
 
+-- where that is so of all owners of numbers, it is so of each number that one of them owns
 pub owner_ends : (finals : List Known) (owners : List Owner) (place n : ℕ) → AllByRecursion (λ (o : Owner). EndsAt finals o.place o.number) owners → IsOwned owners place n → EndsAt finals place n
 owner_ends finals owners place n all (i, below, is) =
     let d : Owner = record { place = place; number = n } in

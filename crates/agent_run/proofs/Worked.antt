@@ -64,6 +64,7 @@ takes_no_roll : (place : ChannelPlace) (a b : HostTold) → TakesDisk place a b 
 takes_no_roll Memory a b takes = ap (λ (h : HostTold). h.folders.rolls) takes
 takes_no_roll (Folder path) a b takes = takes.others.rolls
 
+-- folders of rolled files show the same while channels are opened
 pub opened_rolls : {A B : Type 0} (wishes : List ChannelWish) (cs : List (OpenedChannel A B)) (a b : HostTold) → AreOpened wishes cs a b → b.folders.rolls ≡ a.folders.rolls
 opened_rolls [] [] a b are = ap (λ (h : HostTold). h.folders.rolls) are
 opened_rolls [] (c ∷ cs) a b are = absurd are
@@ -85,6 +86,7 @@ module _ {R A B S N I O C K : Type 0} (runs : Runs (EitherPort R A B) S N I O C 
   abbrev pub Made : RunEnds → List ChannelEnd → HostTold → HostTold → Type 0
   Made = Steps runs sink Means moments heard left read_faults took handed write_faults disk tells moment laid pruned memory tells' plan Drafted Opens Given Back
 
+  -- what a run did, told of by its steps
   abbrev pub Did : {Q : Type 0} → (Q → List Content → ℕ → Result (Unit {0}) SinkRefused → Q → Type 0) → List (Option Q) → RunEnds → List ChannelEnd → HostTold → HostTold → Type 0
   Did = RunDid runs sink Means moments heard left read_faults took handed write_faults disk tells moment laid pruned memory tells' plan Drafted Opens Given Back
 

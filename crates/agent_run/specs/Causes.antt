@@ -16,7 +16,7 @@ use Rattle.netcat_source.specs.Lines.{IsCut, LinesEnd, Rest, TooLong}
 use Rattle.shared_channel.specs.Calls.{state_seen}
 use Rattle.shared_channel.specs.Passes.{Known}
 use Rattle.channel_lock.specs.Views.{View}
-use Rattle.agent_commands.specs.Piped.{cause_status}
+use Rattle.agent_words.specs.Statuses.{cause_status}
 use Rattle.agent_run.specs.FoldersTold.{folder_of}
 
 -- ---- channels that are broken in the end

@@ -5,10 +5,9 @@ use Rattle.agent_plan.specs.declared.plan.ChannelKind.{ChannelKind}
 use Rattle.agent_plan.specs.declared.plan.ChannelKind.TheVariants.{File, Memory}
 use Rattle.agent_plan.specs.declared.plan.ChannelPlan.{ChannelPlan}
 use Rattle.agent_end.specs.Statuses.{mend_status}
-use Rattle.agent_words.specs.Statuses.{status_of}
+use Rattle.agent_words.specs.Statuses.{cause_status, status_of}
 use Rattle.agent_words.specs.declared.error.RunError.{RunError}
 use Rattle.agent_words.specs.declared.error.RunError.TheVariants.{NoMemory}
-use Rattle.agent_commands.specs.Piped.{cause_status}
 
 -- The error of a channel of this kind that was not opened: one in memory had none, and one in a folder has the cause's status, or
 -- there was no memory for the folder's name.

@@ -9,7 +9,7 @@ use Rattle.channel_face.specs.declared.replies.OpenCause.{OpenCause}
 use Rattle.channel_writing.specs.Folders.{AreSame, OpensFrom, Refuses}
 use Rattle.agent_plan.specs.declared.plan.ChannelPlan.{ChannelPlan}
 use Rattle.agent_plan.specs.declared.plan.Plan.{Plan}
-use Rattle.agent_words.specs.Statuses.{status_of}
+use Rattle.agent_words.specs.Statuses.{cause_status, status_of}
 use Rattle.agent_words.specs.declared.error.RunError.{RunError}
 use Rattle.channel_wishes.specs.Openings.{HostTold}
 use Rattle.agent_channels.specs.Several.{AreUnused, ComeBack, RefusesAt}
@@ -19,7 +19,6 @@ use Rattle.agent_outside.specs.Backs.{is_among}
 use Rattle.agent_outside.specs.Ends.{places}
 use Rattle.agent_outside.specs.Sinks.{folders_of}
 use Rattle.agent_commands.specs.Checked.{IsPlanOf, Lacking, Unplanned}
-use Rattle.agent_commands.specs.Piped.{cause_status}
 use Rattle.agent_commands.specs.Stored.{IsOfFolder}
 use Rattle.agent_run.specs.FoldersTold.{folder_of}
 use Rattle.run_opening.specs.Outside.{OutsideRefused}

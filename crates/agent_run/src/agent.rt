@@ -1,5 +1,5 @@
 // The run of an agent.
-ghost use Rattle.std.specs.Prelude.{◌≡◌, ◌+◌, ◌++◌, ◌≤◌, [], All, IfErr, IfOk, Some, length, map, reverse};
+ghost use Rattle.std.specs.Prelude.{◌≡◌, ◌+◌, ◌++◌, ◌≤◌, [], IfErr, IfOk, Some, length, map, reverse};
 ghost use Rattle.two_channels.specs.Shares.{pass_of};
 ghost use Rattle.std.specs.Vec.{vec_capacity};
 ghost use Rattle.channel_wishes.specs.Places.{AreOfWishes, AreOut};
@@ -21,13 +21,12 @@ ghost use Rattle.agent_run.specs.Run.{CanListenAt, IsGivenBack, MayReturn, Stand
 ghost use Rattle.agent_run.specs.Through.{AgentEndsAs, EndsAs, OpenedAndRan, WithObjects};
 ghost use Rattle.agent_run.specs.Errors.{IsBrokenCause, IsBrokenError, IsCauseError, IsRunStatus, IsSaid};
 
-use crate::joined::{Joined, run_crew};
-use crate::laws::runs_are_told;
+use crate::joined::{Joined, run_crew, settle_run};
 use crate::rests::channels_rest;
 use crate::through::{Goes, OpeningOf, RunOf, RunnerOf, Runs, SinkOf, Steps};
-use crate::told::steps_are_told;
+use crate::told::{run_is_told, steps_are_told};
 use agent_channels::{close_channels, closed_channels_fit, give_all_unused, open_channels};
-use agent_commands::{Planned, plan_agent, unopened};
+use agent_commands::{Planned, plan_agent};
 use agent_end::RunEnds;
 use agent_outside::give_back_sinks;
 use agent_plan::{ChannelKind, ChannelPlan, Plan, SinkPlan};
@@ -50,7 +49,7 @@ use run_opening::{
     ChannelEnd, Crew, Grouped, Manned, Opening, Prepared, Room, StreamsEnded, add_ends,
     group_outside, man, name_error, open_outside, prepare, report_on, room_of,
 };
-use run_settling::{Settled, settle};
+use run_settling::Settled;
 use shared_channel::Pass;
 use std::alloc::{AllocError, Global};
 use std::sync::Wait;
@@ -68,7 +67,7 @@ fn cause_error(alloc: Global, plan: &ChannelPlan, cause: OpenCause) -> RunError
             interval: _,
             on_close: _,
         } => match folder.clone() {
-            Ok(folder) => unopened(folder, plan.capacity, cause),
+            Ok(folder) => RunError::unopened(folder, plan.capacity, cause),
             Err(AllocError) => RunError::NoMemory,
         },
     }
@@ -134,7 +133,7 @@ fn run_opened<
         mut homes,
         jobs,
     } = crew;
-    let Joined { sinks, streams } = run_crew(
+    let Joined { sinks, streams } = run_crew::<R, H, K, B>(
         rt,
         alloc,
         host,
@@ -146,20 +145,9 @@ fn run_opened<
         returned,
         named,
     );
-    let settled = settle(rt, shares, homes, sinks, closes.as_slice(), settled);
+    let settled = settle_run::<R, H, K, B>(rt, shares, homes, sinks, closes.as_slice(), settled);
     closed_channels_fit::<FileChannel<H::Disk>, MemoryChannel>();
-    runs_are_told::<
-        'a,
-        R,
-        FileChannel<H::Disk>,
-        MemoryChannel,
-        RunnerOf<H, B>,
-        H::Listener,
-        H::Source,
-        H::Sink,
-        H::Clock,
-        K,
-    >();
+    run_is_told::<'a, R, H, K, B>();
     runners_split::<SinkOf<H, B>, H::Random>();
     let ends = give_rest(
         alloc,

@@ -1,4 +1,4 @@
-// The workers of a run, up to their join.
+// The workers of a run, up to their join, and how its channels are settled then.
 ghost use Rattle.std.specs.Prelude.{◌≡◌, All, length, map};
 ghost use Rattle.agent_outside.specs.Ends.{AreOut, ListensAt, end_at};
 ghost use Rattle.run_tracks.specs.Dealt.{AreDealt};
@@ -9,14 +9,16 @@ ghost use Rattle.source_worker.specs.Workers.{heard_of};
 ghost use Rattle.line_worker.specs.Workers.{talk_of};
 ghost use Rattle.channel_lock.specs.Turns.{HasAll};
 ghost use Rattle.two_channels.specs.Shares.{table_of};
-ghost use Rattle.run_settling.specs.Draining.{IsSinkHome};
-ghost use Rattle.agent_run.specs.Joined.{HaveReturned, IsButStreams, IsJoined, IsSameEnd};
+ghost use Rattle.run_settling.specs.Draining.{HasOwn, HasRoom, IsSinkHome};
+ghost use Rattle.agent_run.specs.Joined.{HaveReturned, IsButStreams, IsSameEnd};
 ghost use Rattle.run_opening.specs.Lists.{IsEmptyFor};
-ghost use Rattle.run_opening.specs.Outside.{AreBack, AreFrom};
-ghost use Rattle.run_opening.specs.Streams.{DrainKept, TalkKept};
+ghost use Rattle.run_opening.specs.Outside.{AreFrom};
 ghost use Rattle.run_staff.specs.Jobs.{AreNew, AreOnDisks, AreWorkers, CanRun, HaveRoom, owners_of};
 ghost use Rattle.run_working.specs.Runs.{runs};
 
+use crate::through::{
+    JoinedOf, Joins, ReturnedOf, RunOf, SettledOf, Settles, ShareOf, SinkHomeOf, WorkersOf,
+};
 use agent_outside::SourceListener;
 use agent_plan::SourcePlan;
 use channel_face::{Channel, Durable};
@@ -26,7 +28,7 @@ use keep_worker::KeepWorker;
 use line_worker::LineWorker;
 use plug_in::{EventSink, Interceptor};
 use run_opening::{StreamsEnded, give_listeners, keep_streams};
-use run_settling::AtHome;
+use run_settling::{AtHome, settle};
 use run_staff::{Returned, Workers};
 use run_working::run_workers;
 use shared_channel::Pass;
@@ -98,23 +100,21 @@ fn run_jobs<
 pub(crate) fn run_crew<
     'a,
     R: Threads + Wait + Sync + 'a,
-    H: Host,
-    A: Durable + Drop + Send + 'a,
-    B: Channel + Drop + Send + 'a,
-    S: EventSink + Send,
-    K: Interceptor + Send,
+    H: Host + 'a,
+    K: Interceptor + Send + Drop,
+    B: EventSink + Send,
 >(
     rt: &'a R,
     alloc: Global,
     host: &mut H,
     sources: &[SourcePlan],
     places: &[usize],
-    shares: &'a [EitherShared<A, B>],
+    shares: &'a [ShareOf<H>],
     homes: &mut [Pass],
-    jobs: Workers<Pass, S, H::Listener, H::Source, H::Sink, H::Clock, K>,
-    returned: Returned<S, H::Listener, H::Source, H::Sink, H::Clock>,
+    jobs: WorkersOf<H, K, B>,
+    returned: ReturnedOf<H, B>,
     named: Vec<SourceListener<H::Listener>>,
-) -> Joined<S, H::Clock>
+) -> JoinedOf<H, B>
     requires homes { AreHomes table_of shares.now homes.old }
     requires jobs { AreWorkers table_of shares.now (λ pass. pass) jobs }
     requires fit { CanRun jobs }
@@ -131,20 +131,8 @@ pub(crate) fn run_crew<
     ensures all { AreDealt homes.old (owners_of jobs) → All (λ p. HasAll p.view) homes.new }
     ensures home { All (IsSinkHome homes.new) result.sinks.items }
     ensures many { length result.sinks.items ≡ length jobs.sinks.items }
-    ensures joined { IsJoined (λ returned. HaveReturned
-        (runs ⟦<KeepWorker<EitherPort<'a, R, A, B>, H::Clock> as Work>⟧.ran
-        ⟦<SinkWorker<EitherPort<'a, R, A, B>, S, H::Clock> as Work>⟧.ran
-        ⟦<ListenWorker<EitherPort<'a, R, A, B>, H::Listener, H::Clock, K> as Work>⟧.ran
-        ⟦<DrainWorker<H::Source> as Work>⟧.ran
-        ⟦<LineWorker<EitherPort<'a, R, A, B>, H::Source, H::Sink, H::Clock, K> as Work>⟧.ran)
-        (told S.delivers S.faults) K.intercepts H.Clock.moments
-        (heard_of H.Listener.told H.Listener.faults H.Listener.waits)
-        (talk_of H.Source.left H.Source.faults H.Sink.took H.Sink.handed H.Sink.faults)
-        shares.now homes.new jobs returned)
-        (DrainKept H.Source.left H.Source.faults)
-        (TalkKept H.Source.left H.Source.faults H.Sink.took H.Sink.handed H.Sink.faults)
-        (AreBack H.Listener.told H.Listener.waits H.Listener.faults sources.now places.now)
-        result (H.state host.old) (H.state host.new) }
+    ensures joined { ⟦<RunOf<'a, R, H, K, B> as Joins<ShareOf<H>, WorkersOf<H, K, B>, JoinedOf<H, B>>>⟧.joins
+        sources.now places.now shares.now homes.new jobs result (H.state host.old) (H.state host.new) }
     ensures rest { IsButStreams (H.state host.old) (H.state host.new) }
     ensures folders { H.folders host.new ≡ H.folders host.old }
 {
@@ -157,4 +145,36 @@ pub(crate) fn run_crew<
     let streams = keep_streams(host, drains, lines);
     give_listeners(host, sources, places, listeners, named);
     Joined { sinks, streams }
+}
+
+/// After the join of the workers each sink empties its channel; then each channel of which it is said so is kept; then each is mended,
+/// counted and closed. The lists of `room` have room.
+pub(crate) fn settle_run<
+    'a,
+    R: Threads + Wait + Sync + 'a,
+    H: Host + 'a,
+    K: Interceptor + Send + Drop,
+    B: EventSink + Send,
+>(
+    rt: &'a R,
+    shares: Vec<ShareOf<H>>,
+    homes: Vec<Pass>,
+    sinks: Vec<SinkHomeOf<H, B>>,
+    keeps: &[bool],
+    room: SettledOf<H, B>,
+) -> SettledOf<H, B>
+    requires homes { AreHomes table_of shares.items homes.items }
+    requires all { All (λ p. HasAll p.view) homes.items }
+    requires own { All HasOwn homes.items }
+    requires sinks { All (IsSinkHome homes.items) sinks.items }
+    requires ends { HasRoom sinks.items room.ends }
+    requires back { HasRoom sinks.items room.sinks }
+    requires mends { length room.mends.items ≡ length homes.items }
+    requires report { length room.report.items ≡ length homes.items }
+    requires keeps { length keeps.now ≡ length homes.items }
+    requires closed { HasRoom homes.items room.closed }
+    ensures settled { ⟦<RunOf<'a, R, H, K, B> as Settles<ShareOf<H>, SinkHomeOf<H, B>, SettledOf<H, B>>>⟧.settles
+        shares.items homes.items sinks.items keeps.now room.report.items result }
+{
+    settle(rt, shares, homes, sinks, keeps, room)
 }

@@ -102,51 +102,51 @@ run_crew-sinks-requires-clause-named g c κs within =
     subst (λ (v : Vec (SourceListener g.row.H-Listener.Denot) Global). IsEmptyFor (length c.as_slice-2.result.now) v) (sym is.named)
     (can.workers.named.0, subst (λ (n : ℕ). n ≤ vec_capacity c.args.opening.workers.named) (sym many) can.workers.named.1)
 
-pub settle-settled-requires-clause-homes : goal.settle-settled-requires-clause-homes
-settle-settled-requires-clause-homes g c =
+pub settle_run-settled-requires-clause-homes : goal.settle_run-settled-requires-clause-homes
+settle_run-settled-requires-clause-homes g c κs within =
     let homes = c.man-crew.result.crew.homes in
     let size : length c.run_crew-sinks.new.homes ≡ homes.len = c.run_crew-sinks.ensures.kept.as_many ∙ ap length c.as_mut_slice.ensures.value ∙ sym homes.ok.0 in
     subst (λ (x : List (EitherShared (g.row.H-Disk.Denot × FileState) MemoryChannel) × List Known). AreHomes table_of x.0 x.1)
     (λ i. (c.as_slice-3.ensures.value i, sym (with_items_is homes c.run_crew-sinks.new.homes size) i)) c.run_crew-sinks.ensures.homes
 
-pub settle-settled-requires-clause-all : goal.settle-settled-requires-clause-all
-settle-settled-requires-clause-all g c =
+pub settle_run-settled-requires-clause-all : goal.settle_run-settled-requires-clause-all
+settle_run-settled-requires-clause-all g c κs within =
     let is = c.man-crew.ensures.manned in
     let homes = c.man-crew.result.crew.homes in
     let size : length c.run_crew-sinks.new.homes ≡ homes.len = c.run_crew-sinks.ensures.kept.as_many ∙ ap length c.as_mut_slice.ensures.value ∙ sym homes.ok.0 in
     let dealt = subst (λ (l : List Known). AreDealt l (owners_of c.man-crew.result.crew.jobs)) (sym c.as_mut_slice.ensures.value) is.dealt in
     subst (λ (l : List Known). All (λ (p : Known). HasAll p.view) l) (sym (with_items_is homes c.run_crew-sinks.new.homes size)) (c.run_crew-sinks.ensures.all dealt)
 
-pub settle-settled-requires-clause-own : goal.settle-settled-requires-clause-own
-settle-settled-requires-clause-own g c =
+pub settle_run-settled-requires-clause-own : goal.settle_run-settled-requires-clause-own
+settle_run-settled-requires-clause-own g c κs within =
     let is = c.man-crew.ensures.manned in
     let homes = c.man-crew.result.crew.homes in
     let size : length c.run_crew-sinks.new.homes ≡ homes.len = c.run_crew-sinks.ensures.kept.as_many ∙ ap length c.as_mut_slice.ensures.value ∙ sym homes.ok.0 in
     let own = subst (λ (l : List Known). All HasOwn l) (sym c.as_mut_slice.ensures.value) is.own in
     subst (λ (l : List Known). All HasOwn l) (sym (with_items_is homes c.run_crew-sinks.new.homes size)) (own_kept c.as_mut_slice.result.now c.run_crew-sinks.new.homes c.run_crew-sinks.ensures.kept own)
 
-pub settle-settled-requires-clause-sinks : goal.settle-settled-requires-clause-sinks
-settle-settled-requires-clause-sinks g c =
+pub settle_run-settled-requires-clause-sinks : goal.settle_run-settled-requires-clause-sinks
+settle_run-settled-requires-clause-sinks g c κs within =
     let homes = c.man-crew.result.crew.homes in
     let size : length c.run_crew-sinks.new.homes ≡ homes.len = c.run_crew-sinks.ensures.kept.as_many ∙ ap length c.as_mut_slice.ensures.value ∙ sym homes.ok.0 in
     subst (λ (l : List Known). All (IsSinkHome l) c.run_crew-sinks.result.sinks.items) (sym (with_items_is homes c.run_crew-sinks.new.homes size)) c.run_crew-sinks.ensures.home
 
-pub settle-settled-requires-clause-ends : goal.settle-settled-requires-clause-ends
-settle-settled-requires-clause-ends g c =
+pub settle_run-settled-requires-clause-ends : goal.settle_run-settled-requires-clause-ends
+settle_run-settled-requires-clause-ends g c κs within =
     let is = c.man-crew.ensures.manned in
     let many = c.run_crew-sinks.ensures.many ∙ zips_long IsSinkOf c.args.rows.now c.man-crew.result.crew.jobs.sinks.items is.sinks in
     subst (λ (r : Settled _ _ _). HasRoom c.run_crew-sinks.result.sinks.items r.ends) (sym is.settled)
     (c.requires.settle.ends.0, room_for _ _ _ many c.requires.settle.ends.1)
 
-pub settle-settled-requires-clause-back : goal.settle-settled-requires-clause-back
-settle-settled-requires-clause-back g c =
+pub settle_run-settled-requires-clause-back : goal.settle_run-settled-requires-clause-back
+settle_run-settled-requires-clause-back g c κs within =
     let is = c.man-crew.ensures.manned in
     let many = c.run_crew-sinks.ensures.many ∙ zips_long IsSinkOf c.args.rows.now c.man-crew.result.crew.jobs.sinks.items is.sinks in
     subst (λ (r : Settled _ _ _). HasRoom c.run_crew-sinks.result.sinks.items r.sinks) (sym is.settled)
     (c.requires.settle.sinks.0, room_for _ _ _ many c.requires.settle.sinks.1)
 
-pub settle-settled-requires-clause-mends : goal.settle-settled-requires-clause-mends
-settle-settled-requires-clause-mends g c =
+pub settle_run-settled-requires-clause-mends : goal.settle_run-settled-requires-clause-mends
+settle_run-settled-requires-clause-mends g c κs within =
     let is = c.man-crew.ensures.manned in
     let homes = c.man-crew.result.crew.homes in
     let size : length c.run_crew-sinks.new.homes ≡ homes.len = c.run_crew-sinks.ensures.kept.as_many ∙ ap length c.as_mut_slice.ensures.value ∙ sym homes.ok.0 in
@@ -154,8 +154,8 @@ settle-settled-requires-clause-mends g c =
     let all : length (with_items homes c.run_crew-sinks.new.homes).items ≡ length c.args.plan.now.channels.items = ap length (with_items_is homes c.run_crew-sinks.new.homes size) ∙ size ∙ homes.ok.0 ∙ many in
     ap (λ (r : Settled _ _ _). length r.mends.items) is.settled ∙ c.requires.settle.mends ∙ sym all
 
-pub settle-settled-requires-clause-report : goal.settle-settled-requires-clause-report
-settle-settled-requires-clause-report g c =
+pub settle_run-settled-requires-clause-report : goal.settle_run-settled-requires-clause-report
+settle_run-settled-requires-clause-report g c κs within =
     let is = c.man-crew.ensures.manned in
     let homes = c.man-crew.result.crew.homes in
     let size : length c.run_crew-sinks.new.homes ≡ homes.len = c.run_crew-sinks.ensures.kept.as_many ∙ ap length c.as_mut_slice.ensures.value ∙ sym homes.ok.0 in
@@ -163,8 +163,8 @@ settle-settled-requires-clause-report g c =
     let all : length (with_items homes c.run_crew-sinks.new.homes).items ≡ length c.args.plan.now.channels.items = ap length (with_items_is homes c.run_crew-sinks.new.homes size) ∙ size ∙ homes.ok.0 ∙ many in
     ap (λ (r : Settled _ _ _). length r.report.items) is.settled ∙ names_many c.args.plan.now.channels.items c.args.opening.settled.report.items c.requires.settle.report ∙ sym all
 
-pub settle-settled-requires-clause-keeps : goal.settle-settled-requires-clause-keeps
-settle-settled-requires-clause-keeps g c =
+pub settle_run-settled-requires-clause-keeps : goal.settle_run-settled-requires-clause-keeps
+settle_run-settled-requires-clause-keeps g c κs within =
     let is = c.man-crew.ensures.manned in
     let homes = c.man-crew.result.crew.homes in
     let size : length c.run_crew-sinks.new.homes ≡ homes.len = c.run_crew-sinks.ensures.kept.as_many ∙ ap length c.as_mut_slice.ensures.value ∙ sym homes.ok.0 in
@@ -172,8 +172,8 @@ settle-settled-requires-clause-keeps g c =
     let all : length (with_items homes c.run_crew-sinks.new.homes).items ≡ length c.args.plan.now.channels.items = ap length (with_items_is homes c.run_crew-sinks.new.homes size) ∙ size ∙ homes.ok.0 ∙ many in
     ap length (c.as_slice-4.ensures.value ∙ ap (λ (v : Vec Bool Global). v.items) is.closes) ∙ c.requires.can.closes ∙ c.requires.many ∙ sym all
 
-pub settle-settled-requires-clause-closed : goal.settle-settled-requires-clause-closed
-settle-settled-requires-clause-closed g c =
+pub settle_run-settled-requires-clause-closed : goal.settle_run-settled-requires-clause-closed
+settle_run-settled-requires-clause-closed g c κs within =
     let is = c.man-crew.ensures.manned in
     let homes = c.man-crew.result.crew.homes in
     let size : length c.run_crew-sinks.new.homes ≡ homes.len = c.run_crew-sinks.ensures.kept.as_many ∙ ap length c.as_mut_slice.ensures.value ∙ sym homes.ok.0 in
@@ -205,18 +205,18 @@ give_rest-ends-requires-clause-dials g c κs within =
     let joins = c.run_crew-sinks.ensures.joined in
     let plans = c.args.plan.now.sinks.items in
     let rows = c.args.rows.now in
-    let runners = c.settle-settled.result.sinks.items in
-    let may = may_return _ _ _ _ _ _ _ _ _ _ _ _ _ _ (dial_of g) c.runs_are_told.ensures c.runners_split.ensures
+    let runners = c.settle_run-settled.result.sinks.items in
+    let may = may_return _ _ _ _ _ _ _ _ _ _ _ _ _ _ (dial_of g) c.run_is_told.ensures.in_full c.runners_split.ensures
     (λ s batch moment answer t one. agent_stays g.H.Roll.RollDir.rolled (links_of g) g.H.Dialer.Dialer.told g.H.Dialer.Dialer.faults g.H.Dialer.Link.Link.told g.H.Dialer.Link.Link.faults g.H.Dialer.Dialer.endpoint
     batch moment answer (λ x y. g.B.EventSink.delivers x batch moment answer y) (dial_of g) (λ x. refl) s t one)
-    plans rows c.requires.order c.args.opening c.man-crew.result c.run_crew-sinks.new.homes c.run_crew-sinks.result joins.returned c.settle-settled.result is
+    plans rows c.requires.order c.args.opening c.man-crew.result c.run_crew-sinks.new.homes c.run_crew-sinks.result joins.returned c.settle_run-settled.result is
     (subst (λ (l : List Known). EachTook l c.run_crew-sinks.new.homes) c.as_mut_slice.ensures.value c.run_crew-sinks.ensures.kept)
     (c.run_crew-sinks.ensures.all dealt)
     (returned_same _ _ _ _ _ _ c.run_crew-sinks.new.homes c.man-crew.result.crew.jobs joins.returned _ _ c.as_slice-3.ensures.value joins.back)
     joins.sinks c.run_crew-sinks.ensures.home
     (ap (λ (r : Settled _ _ _). length r.report.items) is.settled ∙ names_many c.args.plan.now.channels.items c.args.opening.settled.report.items c.requires.settle.report ∙ sym (size ∙ homes.ok.0 ∙ many))
-    (settled_same _ _ _ _ c.man-crew.result.crew.shares.items c.run_crew-sinks.result.sinks.items _ _ c.man-crew.result.settled.report.items c.settle-settled.result _ _
-    (with_items_is homes c.run_crew-sinks.new.homes size) c.as_slice-4.ensures.value c.settle-settled.ensures.settled)
+    (settled_same _ _ _ _ c.man-crew.result.crew.shares.items c.run_crew-sinks.result.sinks.items _ _ c.man-crew.result.settled.report.items c.settle_run-settled.result _ _
+    (with_items_is homes c.run_crew-sinks.new.homes size) c.as_slice-4.ensures.value c.settle_run-settled.ensures.settled)
     (g.H.Host.folders c.args.host.now) (g.H.Host.state c.run_crew-sinks.new.host).dialers
     (subst (λ (l : Option HandedOut). StandInRows (dial_of g) (g.H.Host.folders c.args.host.now) plans rows c.args.opening.outside.sinks.items l) (sym all) c.requires.dials) in
     subst (λ (p : List SinkPlan). MayReturn (dial_of g) p rows runners (g.H.Host.state c.run_crew-sinks.new.host).dialers) (sym c.as_slice-5.ensures.value) may
@@ -224,25 +224,25 @@ give_rest-ends-requires-clause-dials g c κs within =
 pub give_rest-ends-requires-clause-of : goal.give_rest-ends-requires-clause-of
 give_rest-ends-requires-clause-of g c κs within =
     let is = c.man-crew.ensures.manned in
-    let did = c.settle-settled.ensures.settled in
+    let did = c.settle_run-settled.ensures.settled in
     let folders = c.run_crew-sinks.ensures.folders ∙ c.man-crew.ensures.folders in
-    closed_of_wishes c.args.rows.now c.args.opening c.man-crew.result c.requires.can is c.closed_channels_fit.ensures.fit (g.H.Host.folders c.run_crew-sinks.new.host) c.settle-settled.result.closed.items
-    (closed_of _ _ _ _ c.closed_channels_fit.ensures.left c.man-crew.result.crew.shares.items did.counted c.settle-settled.result.closed.items did.closed)
+    closed_of_wishes c.args.rows.now c.args.opening c.man-crew.result c.requires.can is c.closed_channels_fit.ensures.fit (g.H.Host.folders c.run_crew-sinks.new.host) c.settle_run-settled.result.closed.items
+    (closed_of _ _ _ _ c.closed_channels_fit.ensures.left c.man-crew.result.crew.shares.items did.counted c.settle_run-settled.result.closed.items did.closed)
     (subst (λ (f : Folders). AreOut f c.args.opening.prepared.wishes.items) (sym folders) c.requires.disks)
 
 pub give_rest-ends-requires-clause-room : goal.give_rest-ends-requires-clause-room
 give_rest-ends-requires-clause-room g c κs within =
     let is = c.man-crew.ensures.manned in
-    let did = c.settle-settled.ensures.settled in
-    passes_fit c.args.rows.now c.args.opening c.man-crew.result c.requires.can is c.settle-settled.result.closed.items
-    (closed_of _ _ _ _ c.closed_channels_fit.ensures.left c.man-crew.result.crew.shares.items did.counted c.settle-settled.result.closed.items did.closed)
+    let did = c.settle_run-settled.ensures.settled in
+    passes_fit c.args.rows.now c.args.opening c.man-crew.result c.requires.can is c.settle_run-settled.result.closed.items
+    (closed_of _ _ _ _ c.closed_channels_fit.ensures.left c.man-crew.result.crew.shares.items did.counted c.settle_run-settled.result.closed.items did.closed)
 
 pub add_ends-requires-clause-many : goal.add_ends-requires-clause-many
 add_ends-requires-clause-many g c =
-    let did = c.settle-settled.ensures.settled in
+    let did = c.settle_run-settled.ensures.settled in
     labels_fit c.args.rows.now c.args.opening c.man-crew.result c.requires.can c.man-crew.ensures.manned
-    c.settle-settled.result.closed.items _
-    (closed_of _ _ _ _ c.closed_channels_fit.ensures.left c.man-crew.result.crew.shares.items did.counted c.settle-settled.result.closed.items did.closed)
+    c.settle_run-settled.result.closed.items _
+    (closed_of _ _ _ _ c.closed_channels_fit.ensures.left c.man-crew.result.crew.shares.items did.counted c.settle_run-settled.result.closed.items did.closed)
     c.give_rest-ends.ensures.passes
 
 pub add_ends-requires-clause-room : goal.add_ends-requires-clause-room
@@ -273,13 +273,13 @@ returns g c =
       rest = c.run_crew-sinks.ensures.rest;
       home = c.run_crew-sinks.ensures.home;
       named = ap (λ (r : Settled _ _ _). length r.report.items) is.settled ∙ names_many c.args.plan.now.channels.items c.args.opening.settled.report.items c.requires.settle.report ∙ sym (size ∙ homes.ok.0 ∙ many);
-      settled = c.settle-settled.result;
-      settles = settled_same _ _ _ _ c.man-crew.result.crew.shares.items c.run_crew-sinks.result.sinks.items _ _ c.man-crew.result.settled.report.items c.settle-settled.result _ _
-          (with_items_is homes c.run_crew-sinks.new.homes size) c.as_slice-4.ensures.value c.settle-settled.ensures.settled;
-      back = back_same _ _ _ _ c.args.rows.now c.man-crew.result.wishes.items c.settle-settled.result _ _ _ _ _ _ _ _ c.as_slice-5.ensures.value (c.run_crew-sinks.ensures.folders ∙ c.man-crew.ensures.folders) c.give_rest-ends.ensures.back;
+      settled = c.settle_run-settled.result;
+      settles = settled_same _ _ _ _ c.man-crew.result.crew.shares.items c.run_crew-sinks.result.sinks.items _ _ c.man-crew.result.settled.report.items c.settle_run-settled.result _ _
+          (with_items_is homes c.run_crew-sinks.new.homes size) c.as_slice-4.ensures.value c.settle_run-settled.ensures.settled;
+      back = back_same _ _ _ _ c.args.rows.now c.man-crew.result.wishes.items c.settle_run-settled.result _ _ _ _ _ _ _ _ c.as_slice-5.ensures.value (c.run_crew-sinks.ensures.folders ∙ c.man-crew.ensures.folders) c.give_rest-ends.ensures.back;
       input = c.give_rest-ends.ensures.input;
       drains = c.give_rest-ends.ensures.drains;
       mends = c.give_rest-ends.ensures.mends;
-      passes = c.add_ends.ensures.passes ∙ only_passes c.args.rows.now c.args.opening c.man-crew.result can c.man-crew.ensures.manned c.settle-settled.result.closed.items _ c.give_rest-ends.ensures.passes;
+      passes = c.add_ends.ensures.passes ∙ only_passes c.args.rows.now c.args.opening c.man-crew.result can c.man-crew.ensures.manned c.settle_run-settled.result.closed.items _ c.give_rest-ends.ensures.passes;
       labels = c.add_ends.ensures.labels ∙ ap (λ (v : Vec ChannelLabel Global). v.items) is.labels;
     }

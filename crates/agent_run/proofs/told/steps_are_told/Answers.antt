@@ -33,7 +33,7 @@ links_of g s = record { dialer = s.dialer; opened = s.opened }
 
 pub returns : goal.returns
 returns g c = λ given objects plan ends channels a b planned ran.
-    run_did _ _ _ _ _ _ _ _ _ _ _ _ _ _ _ _ _ c.runs_are_told.ensures c.lines_stay_told.ensures c.workers_ran.ensures.well plan _ _ _ _
+    run_did _ _ _ _ _ _ _ _ _ _ _ _ _ _ _ _ _ c.run_is_told.ensures.in_full c.run_is_told.ensures.lines c.run_is_told.ensures.well plan _ _ _ _
     (λ rows prepared old new out is. ap (λ (s : HostState). s.input) is.opened.opened.out.state ∙ ap (λ (s : HostState). s.input) is.opened.dials.out.state)
     (λ rows prepared old new out is. ap (λ (s : HostState). s.output) is.opened.opened.out.state ∙ ap (λ (s : HostState). s.output) is.opened.dials.out.state)
     g.B.EventSink.delivers objects ends channels a b ran
