@@ -32,15 +32,9 @@ fn add_step(
         .ok()
 }
 
-/// Runs with these words, with what the program hands in, the interceptor `Passer`, which hands all on but
-/// `lack`, and the sinks `Taker`, which takes all, and `Refuser`, which refuses all.
-pub fn outcome_of<R: Threads + Wait + Sync>(
-    rt: &R,
-    alloc: Global,
-    words: &[String],
-    host: &mut OwnHost,
-    notes: &Notes,
-) -> Option<Outcome> {
+// What the program hands in, the interceptor `Passer`, which hands all on but `lack`, and the sinks `Taker`, which takes all, and
+// `Refuser`, which refuses all.
+fn plugins(alloc: Global, notes: &Notes) -> Option<Plugins> {
     let mut plugins = Plugins::new(alloc);
     let sample = Box::new(alloc, Sample { drops: false }).ok()?;
     add_step(alloc, &mut plugins, "sample", sample)?;
@@ -52,5 +46,17 @@ pub fn outcome_of<R: Threads + Wait + Sync>(
     add(alloc, &mut plugins, "Taker", taker)?;
     let refuser = Box::new(alloc, scribe_of(notes, "Refuser", false)?).ok()?;
     add(alloc, &mut plugins, "Refuser", refuser)?;
+    Some(plugins)
+}
+
+/// Runs with these words and objects.
+pub fn outcome_of<R: Threads + Wait + Sync>(
+    rt: &R,
+    alloc: Global,
+    words: &[String],
+    host: &mut OwnHost,
+    notes: &Notes,
+) -> Option<Outcome> {
+    let plugins = plugins(alloc, notes)?;
     Some(run_agent(rt, alloc, words, host, plugins))
 }

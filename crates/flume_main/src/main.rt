@@ -28,8 +28,19 @@ fn nothing(rt: &HostRuntime) -> Option<File> {
     File::open(rt, "/dev/null").ok()
 }
 
-// The exit status of a run, to which the interceptor `sample` and the sink `tally` are handed in, if there is memory for them. They are
-// boxed here, since a library may not make such boxes and hand them out.
+// The exit status of a run with these words and these objects.
+fn status_with<R: Threads + Wait + Sync>(
+    rt: &R,
+    alloc: Global,
+    words: &[String],
+    host: &mut RealHost,
+    plugins: Plugins,
+) -> u8 {
+    run_agent(rt, alloc, words, host, plugins).status
+}
+
+// The exit status of a run to which the interceptor `sample` and the sink `tally` are handed in, if there is memory for them. They are
+// boxed here, since a library may not make such boxes and hand them out; nor may a function here, so the run is called from this one.
 fn status_of<R: Threads + Wait + Sync>(
     rt: &R,
     alloc: Global,
@@ -45,7 +56,7 @@ fn status_of<R: Threads + Wait + Sync>(
     plugins
         .add_sink(String::from_str(alloc, "tally").ok()?, tally)
         .ok()?;
-    Some(run_agent(rt, alloc, words, host, plugins).status)
+    Some(status_with(rt, alloc, words, host, plugins))
 }
 
 fn main(rt: HostRuntime) -> ExitCode {
