@@ -2,6 +2,7 @@
 
 ghost use Rattle.std.specs.Prelude.{◌≡◌};
 ghost use Rattle.agent_words.specs.Statuses.{cause_status, status_of};
+ghost use Rattle.agent_words.specs.Unopened.{unopened};
 ghost use Rattle.agent_words.specs.declared.error.RunError.TheVariants as errors;
 
 use channel_face::OpenCause;
@@ -85,7 +86,8 @@ impl From<AllocError> for RunError {
 impl RunError {
     /// Why a run ended whose channel, in this folder and of this capacity, was not opened for this cause.
     pub fn unopened(dir: String, capacity: u32, cause: OpenCause) -> RunError
-        ensures { status_of result ≡ cause_status cause }
+        ensures error { result ≡ unopened dir capacity cause }
+        ensures status { status_of result ≡ cause_status cause }
     {
         match cause {
             OpenCause::DiskFault => RunError::Fault,

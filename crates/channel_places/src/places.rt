@@ -22,18 +22,12 @@ use channel_face::{
     BeginRefused, Counter, Limits, PutRefused, PutTxn, Settled, StageCause, TakeRefused, TakeTxn,
     Ticket,
 };
-use event_core::NoMemory;
+use event_core::{MAX_KEPT_SIZE, MOST_OPEN, NoMemory};
 use event_ring::Ring;
 use open_table::{Ended, Item, OpenTable};
 use record_form::Pointer;
 use std::alloc::Global;
 use std::marker::Model;
-
-// The most transactions that are open at once.
-const MOST_OPEN: usize = 1024;
-
-// The largest event that a channel on a disk keeps, in bytes.
-const MAX_SIZE: u64 = 1_048_576;
 
 /// What a channel keeps of its events in memory: the ring of those that are left, the open transactions, and what is staged.
 /// Calls of a channel change it as steps of the channel's machine.
@@ -275,7 +269,7 @@ impl Held {
         if held >= self.limits.txn_capacity as usize {
             return Some(PutRefused::TxnFull { count: held as u32 });
         }
-        if size > MAX_SIZE {
+        if size > MAX_KEPT_SIZE {
             return Some(PutRefused::TooLarge { size });
         }
         let count = self.ring.len() + self.open_puts + self.staged_puts;

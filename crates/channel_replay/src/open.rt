@@ -10,14 +10,11 @@ ghost use Rattle.channel_replay.specs.Marks.{events_of, numbers_of};
 ghost use Rattle.channel_replay.specs.Rules.{IsPut, IsTake};
 ghost use Rattle.channel_replay.specs.Open.{Begins, GoesOn, HasNone, IsAt};
 
-use event_core::{Batch, Entry, Event, NoMemory, Numbers};
+use event_core::{Batch, Entry, Event, MOST_OPEN, NoMemory, Numbers};
 use std::alloc::Global;
 
 /// An open transaction: its number, with its puts or takes.
 pub type Open = (u64, Entry);
-
-// The most transactions that are open at once.
-const MOST_OPEN: usize = 1024;
 
 fn place_of(opened: &[Open], txn: u64) -> Option<usize>
     ensures found { IfSome result (λ place. (entry : Entry) × IsAt opened.now txn place entry) }

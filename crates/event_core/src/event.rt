@@ -16,6 +16,9 @@ use std::marker::Model;
 /// The greatest size of an event, in bytes.
 pub const MAX_EVENT_SIZE: u64 = 33_554_432;
 
+/// The greatest size of an event that a channel on a disk keeps, in bytes.
+pub const MAX_KEPT_SIZE: u64 = 1_048_576;
+
 /// A body of bytes with headers (Flume Developer Guide, "Events").
 #[derive(Drop)]
 pub struct Event {

@@ -7,6 +7,9 @@ use std::alloc::Global;
 use std::collections::VecDeque;
 use std::marker::Model;
 
+/// The most transactions of a channel that are open at once.
+pub const MOST_OPEN: usize = 1_024;
+
 /// Events in order.
 #[derive(Drop)]
 pub struct Batch {

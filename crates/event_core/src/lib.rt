@@ -5,6 +5,6 @@ mod event;
 mod journal;
 mod refused;
 
-pub use event::{Event, HeaderPairs, Headers, MAX_EVENT_SIZE, put};
-pub use journal::{Batch, Entry, Numbers};
+pub use event::{Event, HeaderPairs, Headers, MAX_EVENT_SIZE, MAX_KEPT_SIZE, put};
+pub use journal::{Batch, Entry, MOST_OPEN, Numbers};
 pub use refused::{EventRefused, NoMemory};

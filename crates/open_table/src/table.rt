@@ -4,15 +4,12 @@ ghost use Rattle.std.specs.Prelude.{◌≡◌, ◌<◌, ◌≤◌, ◌+◌, ◌�
 ghost use Rattle.open_table.specs.Tables.{open_at, HasAt, MayAdd, MayMove, IsNext, added, begun, is_open, listed_of, moved_open, puts_of, takes_of, wider, Puts, is_behind, moved_pointer, IsOf, size, with_item, capacity_of, moved, MayMoveOne, is_puts};
 ghost use Rattle.open_table.specs.declared.table.TableRefused.TheVariants.{TooManyOpen};
 
-use event_core::NoMemory;
+use event_core::{MOST_OPEN, NoMemory};
 use record_form::Pointer;
 use std::alloc::Global;
 use std::collections::BTreeMap;
 use std::marker::Model;
 use std::ops::Bound;
-
-// The most transactions that are open at once.
-const MOST_OPEN: usize = 1024;
 
 /// Why a transaction was not begun.
 #[derive(Clone, Copy, Debug, PartialEq, Eq)]

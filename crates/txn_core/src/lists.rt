@@ -26,15 +26,9 @@ use channel_face::{
     BeginRefused, Counter, FlushRefused, Kind, Limits, Put, PutRefused, PutTxn, Settled,
     StageCause, StageRefused, TakeRefused, TakeTxn, Taken, Ticket,
 };
-use event_core::{Event, NoMemory};
+use event_core::{Event, MAX_KEPT_SIZE, MOST_OPEN, NoMemory};
 use std::alloc::Global;
 use std::marker::Model;
-
-/// The most transactions that are open at once.
-const MOST_OPEN: usize = 1024;
-
-/// The largest event that a channel on a disk keeps, in bytes.
-const MAX_SIZE: u64 = 1048576;
 
 /// The lists of a channel: the events that are left, the open transactions, and what is staged. Every call of a channel but
 /// those that need a disk is here, as a step of the channel's machine.
@@ -255,7 +249,7 @@ impl ChannelLists {
         match self.kind {
             Kind::File => {
                 let size = event.size();
-                if size > MAX_SIZE {
+                if size > MAX_KEPT_SIZE {
                     return Some(PutRefused::TooLarge { size });
                 }
                 let count = self.items.len() + self.open_puts + self.staged_puts;

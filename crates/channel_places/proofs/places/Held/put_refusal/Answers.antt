@@ -23,7 +23,7 @@ returns-then-count-self-clause-refusal c = λ settled known s event looks size.
     ap (λ n. Some (Full n)) same
     ∙ sym (refuses_full s _ found.0 event found.1 (sym (ap (λ (n : Numbers). n.rules.kind) here.numbers)) (sym (ap (λ (n : Numbers). n.broken) here.numbers) ∙ c.if-self.false)
     (omega (arith, found.2, c.if-held-self.false, ap (λ (n : Numbers). n.rules.limits.txn_capacity) here.numbers))
-    (omega (arith, size, c.if-size-gt-MAX_SIZE.false))
+    (omega (arith, size, c.if-size-gt-MAX_KEPT_SIZE.false))
     (omega (arith, same, c.if-count-self.true, ap (λ (n : Numbers). n.rules.limits.capacity) here.numbers)))
 
 pub returns-clause-refusal : goal.returns-clause-refusal
@@ -35,7 +35,7 @@ returns-clause-refusal c = λ settled known s event looks size.
     omega (arith, c.len.ensures, c.self.invariant.staged_puts_are, count_is settled known p s here) in
     sym (refuses_none s _ found.0 event found.1 (sym (ap (λ (n : Numbers). n.rules.kind) here.numbers)) (sym (ap (λ (n : Numbers). n.broken) here.numbers) ∙ c.if-self.false)
     (omega (arith, found.2, c.if-held-self.false, ap (λ (n : Numbers). n.rules.limits.txn_capacity) here.numbers))
-    (omega (arith, size, c.if-size-gt-MAX_SIZE.false))
+    (omega (arith, size, c.if-size-gt-MAX_KEPT_SIZE.false))
     (omega (arith, same, c.if-count-self.false, ap (λ (n : Numbers). n.rules.limits.capacity) here.numbers)))
 
 pub returns-clause-may : goal.returns-clause-may
