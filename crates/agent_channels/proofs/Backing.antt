@@ -19,14 +19,17 @@ use Rattle.channel_wishes.specs.declared.wish.ChannelWish.{ChannelWish}
 
 -- ---- texts
 
+-- paths that compare alike are one
 pub same_path : (a b : List ℕ) → bytes_eq a b ≡ true → a ≡ b
 same_path a b is = (bytes_eq-Decides a b).0 is
 
+-- paths that do not compare alike are two
 pub other_path : (a b : List ℕ) → bytes_eq a b ≡ false → b ≢ a
 other_path a b not is = absurd (true≢false (sym ((bytes_eq-Decides a b).1 (sym is)) ∙ not))
 
 -- ---- counts
 
+-- a count that stayed has no fault more
 pub counts_none : (n : ℕ) → Counts n n 0
 counts_none n = record { later = omega arith; clean = λ _. refl; raised = λ some. absurd (omega (arith, some)) }
 
@@ -49,6 +52,7 @@ told_append : (a b : List DiskBack) (p : List ℕ) (before : Option Told) → to
 told_append [] b p before = refl
 told_append (back ∷ a) b p before = ap (λ (told : Option Told). cond (bytes_eq back.path p) back.told told) (told_append a b p before)
 
+-- where no disk came back, the host is as before
 pub back_none : (a b : HostTold) → b ≡ a → DisksBack [] a b
 back_none a b same = subst (λ (h : HostTold). DisksBack [] a h) (sym same) (record { disks = λ p. refl; opened = λ p. refl; rolls = refl; rolls_opened = refl; state = refl; counts = counts_none a.state.disk_faults })
 
@@ -92,12 +96,14 @@ back_then x y a m b first second = record {
 -- ---- closed channels, from the back
 
 module _ {A B : Type 0} where
+  -- a closed channel of a place stays one where disks that were opened are so still
   pub of_place_later : (f g : Folders) → ((p : List ℕ) → f.disk_opened p ≡ true → g.disk_opened p ≡ true) → (place : ChannelPlace) (c : EitherClosed A B) → IsOfPlace f place c → IsOfPlace g place c
   of_place_later f g later Memory (closed.Memory c) of = tt
   of_place_later f g later Memory (closed.Disk c) of = absurd of
   of_place_later f g later (Folder path) (closed.Disk c) of = later (string_bytes path) of
   of_place_later f g later (Folder path) (closed.Memory c) of = absurd of
 
+  -- closed channels of wishes stay those where disks that were opened are so still
   pub of_later : (f g : Folders) → ((p : List ℕ) → f.disk_opened p ≡ true → g.disk_opened p ≡ true) → (wishes : List ChannelWish) (cs : List (EitherClosed A B)) → AreOfWishes f wishes cs → AreOfWishes g wishes cs
   of_later f g later [] [] of = tt
   of_later f g later [] (c ∷ cs) of = absurd of
@@ -110,6 +116,7 @@ module _ {A B : Type 0} where
   of_some f [] (d ∷ cs) c none of = of
   of_some f (wish ∷ wishes) cs c none of = absurd (omega (arith, none))
 
+  -- without the last wish and the last channel, the others still fit, and so do these two
   pub of_last : (f : Folders) (wishes : List ChannelWish) (cs : List (EitherClosed A B)) (wish : ChannelWish) (c : EitherClosed A B) → AreOfWishes f (wishes ++ wish ∷ []) (cs ++ c ∷ []) → AreOfWishes f wishes cs × IsOfPlace f wish.place c
   of_last f [] [] wish c of = (tt, of.0)
   of_last f [] (d ∷ []) wish c of = absurd of.1
@@ -118,17 +125,20 @@ module _ {A B : Type 0} where
   of_last f (w ∷ x ∷ wishes) [] wish c of = absurd of.1
   of_last f (w ∷ wishes) (d ∷ cs) wish c of = let r = of_last f wishes cs wish c of.1 in ((of.0, r.0), r.1)
 
+  -- closed channels fit their wishes, where the last of both was split off
   pub of_split : (f : Folders) (wishes front : List ChannelWish) (cs left : List (EitherClosed A B)) (wish : ChannelWish) (c : EitherClosed A B) → wishes ≡ front ++ wish ∷ [] → cs ≡ left ++ c ∷ []
       → AreOfWishes f wishes cs → AreOfWishes f front left × IsOfPlace f wish.place c
   of_split f wishes front cs left wish c w l of =
       of_last f front left wish c (subst (λ (x : List ChannelWish × List (EitherClosed A B)). AreOfWishes f x.0 x.1) (λ i. (w i, l i)) of)
 
+-- of no channel no disk comes back
 pub backs_none : {D B : Type 0} (told : D → Option Told) (faults : D → ℕ) (wishes : List ChannelWish) (cs : List (EitherClosed (D × FileState) B)) → cs ≡ [] → backs_of told faults wishes cs ≡ []
 backs_none told faults [] cs none = refl
 backs_none told faults (wish ∷ wishes) [] none = refl
 backs_none told faults (wish ∷ wishes) (c ∷ cs) none = absurd (let e = ap length none in omega (arith, e))
 
 module _ {D B : Type 0} (told : D → Option Told) (faults : D → ℕ) where
+  -- one wish and one closed channel more have their disk last in the list
   pub backs_more : (f : Folders) (wishes : List ChannelWish) (cs : List (EitherClosed (D × FileState) B)) (wish : ChannelWish) (c : EitherClosed (D × FileState) B) → AreOfWishes f wishes cs
       → backs_of told faults (wishes ++ wish ∷ []) (cs ++ c ∷ []) ≡ backs_of told faults wishes cs ++ back_of told faults wish.place c
   backs_more f [] [] wish c of = append-nil (back_of told faults wish.place c)
@@ -138,6 +148,7 @@ module _ {D B : Type 0} (told : D → Option Told) (faults : D → ℕ) where
       ap (λ (l : List DiskBack). back_of told faults w.place d ++ l) (backs_more f wishes cs wish c of.1)
       ∙ sym (append_assoc (back_of told faults w.place d) (backs_of told faults wishes cs) (back_of told faults wish.place c))
 
+  -- the disks that come back, where the last wish and the last channel were split off
   pub backs_split : (f : Folders) (wishes front : List ChannelWish) (cs left : List (EitherClosed (D × FileState) B)) (wish : ChannelWish) (c : EitherClosed (D × FileState) B) → wishes ≡ front ++ wish ∷ [] → cs ≡ left ++ c ∷ []
       → AreOfWishes f front left → backs_of told faults wishes cs ≡ backs_of told faults front left ++ back_of told faults wish.place c
   backs_split f wishes front cs left wish c w l of = (λ i. backs_of told faults (w i) (l i)) ∙ backs_more f front left wish c of

@@ -28,6 +28,7 @@ use Rattle.agent_channels.proofs.Joining.{fresh_base, fresh_new}
 abbrev pub Marks : Folders → Folders → Type 0
 Marks f g = (p : List ℕ) → f.disk_opened p ≡ true → g.disk_opened p ≡ true
 
+-- folders that are as before have what was opened
 pub same_marks : (f g : Folders) → g ≡ f → Marks f g
 same_marks f g same p is = ap (λ (h : Folders). h.disk_opened p) same ∙ is
 
@@ -38,15 +39,18 @@ but_marks path f g marked but p is = here (bytes_eq path p) refl
     here true same = ap g.disk_opened (sym (same_path path p same)) ∙ marked
     here false other = but p (other_path path p other) ∙ is
 
+-- what was opened stays so where a channel takes its disk
 pub takes_marks : (place : ChannelPlace) (a b : HostTold) → TakesDisk place a b → Marks a.folders b.folders
 takes_marks Memory a b takes = same_marks a.folders b.folders (ap (λ (h : HostTold). h.folders) takes)
 takes_marks (Folder path) a b takes = but_marks (string_bytes path) a.folders b.folders takes.opened takes.others.opened
 
+-- what was opened stays so where a channel is refused
 pub refuses_marks : (place : ChannelPlace) (capacity : ℕ) (a b : HostTold) (cause : OpenCause) → Refuses place capacity a b cause → Marks a.folders b.folders
 refuses_marks Memory capacity a b cause refuses = same_marks a.folders b.folders (ap (λ (h : HostTold). h.folders) refuses.1)
 refuses_marks (Folder path) capacity a b cause (inl none) = same_marks a.folders b.folders none.folders
 refuses_marks (Folder path) capacity a b cause (inr back) = but_marks (string_bytes path) a.folders b.folders back.opened back.others.opened
 
+-- what was opened stays so where the disk of an unused channel comes back
 pub unused_marks : (place : ChannelPlace) (start : Opening) (a b : HostTold) → IsUnused place start a b → Marks a.folders b.folders
 unused_marks Memory start a b unused p is = unused.opened p ∙ is
 unused_marks (Folder path) start a b unused p is = unused.1.opened p ∙ is
@@ -55,10 +59,12 @@ out_in_later : (f g : Folders) → Marks f g → (place : ChannelPlace) → IsOu
 out_in_later f g marks Memory out = tt
 out_in_later f g marks (Folder path) out = marks (string_bytes path) out
 
+-- disks that are out for wishes can be given back later too
 pub out_later : (f g : Folders) → Marks f g → (wishes : List ChannelWish) → AreOut f wishes → AreOut g wishes
 out_later f g marks [] out = tt
 out_later f g marks (wish ∷ wishes) out = (out_in_later f g marks wish.place out.0, out_later f g marks wishes out.1)
 
+-- disks are out for the first wishes and for the last one
 pub out_last : (f : Folders) (wishes : List ChannelWish) (wish : ChannelWish) → AreOut f (wishes ++ wish ∷ []) → AreOut f wishes × IsOutIn f wish.place
 out_last f [] wish out = (tt, out.0)
 out_last f (w ∷ wishes) wish out = let r = out_last f wishes wish out.1 in ((out.0, r.0), r.1)
@@ -84,6 +90,7 @@ module _ {A B : Type 0} where
   opened_out (wish ∷ wishes) (c ∷ cs) a b opened =
       (out_in_later opened.0.folders b.folders (opened_marks wishes cs opened.0 b opened.2) wish.place (takes_out wish.place a opened.0 opened.1.takes), opened_out wishes cs opened.0 b opened.2)
 
+  -- as many channels were opened as wished for
   pub opened_many : (wishes : List ChannelWish) (cs : List (OpenedChannel A B)) (a b : HostTold) → AreOpened wishes cs a b → length cs ≡ length wishes
   opened_many [] [] a b opened = refl
   opened_many [] (c ∷ cs) a b opened = absurd opened
@@ -98,10 +105,12 @@ module _ {A B : Type 0} where
   opened_push (w ∷ wishes) [] wish c a m b opened one = absurd opened
   opened_push (w ∷ wishes) (d ∷ cs) wish c a m b opened one = (opened.0, opened.1, opened_push wishes cs wish c opened.0 m b opened.2 one)
 
+  -- the list of opened channels goes on by the one that was added
   pub opened_more : (wishes front : List ChannelWish) (before after : List (OpenedChannel A B)) (wish : ChannelWish) (a m b : HostTold) → wishes ≡ front ++ wish ∷ [] → AreOpened front before a m → AddsOpened wish m b before after → AreOpened wishes after a b
   opened_more wishes front before after wish a m b w opened added =
       subst (λ (x : List ChannelWish × List (OpenedChannel A B)). AreOpened x.0 x.1 a b) (λ i. (sym w i, sym added.1 i)) (opened_push front before wish added.0 a m b opened added.2)
 
+  -- without a wish nothing was opened
   pub opened_zero : (wishes : List ChannelWish) (cs : List (OpenedChannel A B)) (a : HostTold) → length wishes ≡ 0 → cs ≡ [] → AreOpened wishes cs a a
   opened_zero [] cs a none empty = subst (λ (l : List (OpenedChannel A B)). AreOpened [] l a a) (sym empty) refl
   opened_zero (wish ∷ wishes) cs a none empty = absurd (omega (arith, none))
@@ -118,6 +127,7 @@ module _ {A B : Type 0} where
       let r = opened_last wishes cs wish c opened.0 b opened.2 in
       (r.0, (opened.0, opened.1, r.1), r.2)
 
+  -- without the last wish and its channel the others were opened, and that one is new and of its kind
   pub were_split : (wishes front : List ChannelWish) (cs left : List (OpenedChannel A B)) (wish : ChannelWish) (c : OpenedChannel A B) → wishes ≡ front ++ wish ∷ [] → cs ≡ left ++ c ∷ [] → WereOpened wishes cs
       → WereOpened front left × IsOfKind wish.place c.share × AreNew (table_of c.share) c.home c.others.items
   were_split wishes front cs left wish c w l opened =
@@ -132,6 +142,7 @@ module _ {A B : Type 0} where
 
   -- ---- channels that come back without a call
 
+  -- one unused channel more came back, before the others
   pub unused_push : (wishes : List ChannelWish) (cs : List (OpenedChannel A B)) (wish : ChannelWish) (c : OpenedChannel A B) (a m b : HostTold) → IsUnused wish.place c.home.view.base a m
       → AreUnused wishes cs m b → AreUnused (wishes ++ wish ∷ []) (cs ++ c ∷ []) a b
   unused_push [] [] wish c a m b one unused = (a, refl, subst (λ (h : HostTold). IsUnused wish.place c.home.view.base a h) (sym unused) one)
@@ -139,17 +150,20 @@ module _ {A B : Type 0} where
   unused_push (w ∷ wishes) [] wish c a m b one unused = absurd unused
   unused_push (w ∷ wishes) (d ∷ cs) wish c a m b one unused = (unused.0, unused_push wishes cs wish c a m unused.0 one unused.1, unused.2)
 
+  -- unused channels came back, where the last of them was split off
   pub unused_split : (wishes front : List ChannelWish) (cs left : List (OpenedChannel A B)) (wish : ChannelWish) (c : OpenedChannel A B) (a m b : HostTold) → wishes ≡ front ++ wish ∷ [] → cs ≡ left ++ c ∷ []
       → IsUnused wish.place c.home.view.base a m → AreUnused front left m b → AreUnused wishes cs a b
   unused_split wishes front cs left wish c a m b w l one unused =
       subst (λ (x : List ChannelWish × List (OpenedChannel A B)). AreUnused x.0 x.1 a b) (λ i. (sym w i, sym l i)) (unused_push front left wish c a m b one unused)
 
+  -- where no channel was opened, none comes back
   pub unused_none : (wishes : List ChannelWish) (cs : List (OpenedChannel A B)) (a : HostTold) → WereOpened wishes cs → cs ≡ [] → AreUnused wishes cs a a
   unused_none [] [] a opened none = refl
   unused_none [] (c ∷ cs) a opened none = absurd opened.2
   unused_none (wish ∷ wishes) [] a opened none = absurd opened.2
   unused_none (wish ∷ wishes) (c ∷ cs) a opened none = absurd (let e = ap length none in omega (arith, e))
 
+  -- channels that were opened and made no call come back as the wishes say
   pub come_back : (wishes : List ChannelWish) (cs : List (OpenedChannel A B)) (a b c d : HostTold) → AreOpened wishes cs a b → AreUnused wishes cs c d → ComeBack wishes a b c d
   come_back [] [] a b c d opened unused = (opened, unused)
   come_back [] (x ∷ cs) a b c d opened unused = absurd opened
@@ -161,6 +175,7 @@ module _ {A B : Type 0} where
 
   -- ---- one was refused
 
+  -- a refusal after channels that were opened and came back is told of all the wishes
   pub refuses_last : (front : List ChannelWish) (cs : List (OpenedChannel A B)) (wish : ChannelWish) (wishes : List ChannelWish) (a m b : HostTold) (place : ℕ) (cause : OpenCause) → wishes ≡ front ++ wish ∷ []
       → AreOpened front cs a m → RefusesLast front cs wish m b place cause → RefusesAt wishes a b place cause
   refuses_last front cs wish wishes a m b place cause split opened last = record {
@@ -177,6 +192,7 @@ module _ {A B : Type 0} where
 
   -- ---- closed channels are of the wishes
 
+  -- a closed channel is on a disk exactly where the shared one was
   pub left_fits : (disk : A → Opening → List Step → Type 0) (tells : A → Bool) (memory : B → Opening → List Step → Type 0) (tells' : B → Bool) (s : EitherShared A B) (v : View) (c : EitherClosed A B)
       → LeftIn disk tells memory tells' s v c → IsClosedOf s c
   left_fits disk tells memory tells' (share.Disk s) v (closed.Disk c) left = tt
@@ -192,6 +208,7 @@ module _ {A B : Type 0} where
   place_of_kind folders (Folder path) (share.Disk s) (closed.Memory c) kind of out = absurd of
   place_of_kind folders (Folder path) (share.Disk s) (closed.Disk c) kind of out = out
 
+  -- closed channels are of the wishes by which they were opened
   pub closed_fit : (wishes : List ChannelWish) (cs : List (OpenedChannel A B)) (ends : List (EitherClosed A B)) (folders : Folders) (a b : HostTold)
       → AreOpened wishes cs a b → AreClosedOf (map (λ (c : OpenedChannel A B). c.share) cs) ends → AreOut folders wishes → AreOfWishes folders wishes ends
   closed_fit [] [] [] folders a b opened of out = tt
@@ -221,6 +238,7 @@ no_memory : (place : ChannelPlace) (capacity : ℕ) (a : HostTold) → Refuses p
 no_memory Memory capacity a = (refl, refl)
 no_memory (Folder path) capacity a = inl (record { folders = refl; state = refl; later = omega arith; why = inr refl })
 
+-- out of memory before any channel was opened is a refusal of the first wish
 pub refuses_first : (wishes : List ChannelWish) (a : HostTold) → (length wishes ≡ 0 → ⊥) → RefusesAt wishes a a 0 NoMemory
 refuses_first [] a some = absurd (some refl)
 refuses_first (wish ∷ wishes) a some = record {

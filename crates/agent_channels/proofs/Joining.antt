@@ -91,6 +91,7 @@ new_by_home table home others are =
 pub fresh_base : (table : TableId) (start : Opening) (users : ℕ) (home : Known) (others : List Known) → home ∷ others ≡ new_passes table start (users + 1) (users + 1) → home.view.base ≡ start
 fresh_base table start users home others e = ap (λ (p : Known). p.view.base) (home_new table start (users + 1) users home others e)
 
+-- the passes that were made with a channel are new
 pub fresh_new : (table : TableId) (start : Opening) (users : ℕ) (home : Known) (others : List Known) → home ∷ others ≡ new_passes table start (users + 1) (users + 1) → AreNew table home others
 fresh_new table start users home others e =
     let many : users + 1 ≡ length others + 1 = let a = ap length e in let b = length_new table start (users + 1) (users + 1) in omega (arith, a, b) in

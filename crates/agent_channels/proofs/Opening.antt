@@ -65,6 +65,7 @@ hands_none a b cause n folders is later why =
 
 -- a channel of either kind was opened
 
+-- a channel that was wanted in memory was opened
 pub opened_in_memory : {A B : Type 0} (a b : HostTold) (wish : ChannelWish) (s : EitherShared A B) (home : Known) (others : List Known) → wish.place ≡ Memory → b ≡ a → (IsDisk s → ⊥)
     → IsFresh (λ start. start ≡ in_memory wish.limits) wish.users s home others → IsOpened a b wish s home others
 opened_in_memory a b wish s home others is same kind fresh = record {
@@ -73,6 +74,7 @@ opened_in_memory a b wish s home others is same kind fresh = record {
   takes = subst (λ (p : ChannelPlace). TakesDisk p a b) (sym is) same;
 }
 
+-- a channel that was wanted in a folder was opened
 pub opened_in_folder : {A B : Type 0} (a b : HostTold) (wish : ChannelWish) (path : _) (p : List ℕ) (s : EitherShared A B) (home : Known) (others : List Known) → wish.place ≡ Folder path → p ≡ string_bytes path → IsDisk s
     → IsFresh (BeginsOnDisk wish.limits (a.folders.disks p)) wish.users s home others → IsOut p a b → IsOpened a b wish s home others
 opened_in_folder a b wish path p s home others is at kind fresh out =
@@ -84,6 +86,7 @@ opened_in_folder a b wish path p s home others is at kind fresh out =
       takes = subst (λ (p : ChannelPlace). TakesDisk p a b) (sym is) taken;
     }
 
+-- a channel that was wanted in a folder was refused
 pub refused_in_folder : (a b : HostTold) (wish : ChannelWish) (path : _) (p : List ℕ) (cause : OpenCause) → wish.place ≡ Folder path → p ≡ string_bytes path
     → HandsNone a b cause ⊎ GivesBack p wish.limits.capacity a b cause → Refuses wish.place wish.limits.capacity a b cause
 refused_in_folder a b wish path p cause is at refused =
@@ -92,10 +95,12 @@ refused_in_folder a b wish path p cause is at refused =
 
 -- of a result that is Ok, from two facts a third, and from three a fourth
 
+-- of a success, a third fact from two
 pub ok_of_two : {T E : Type 0} (r : Result T E) (P Q R : T → Type 0) → ((x : T) → P x → Q x → R x) → IfOk r P → IfOk r Q → IfOk r R
 ok_of_two (Ok x) P Q R step p q = step x p q
 ok_of_two (Err e) P Q R step p q = tt
 
+-- of a success, a fourth fact from three
 pub ok_of_three : {T E : Type 0} (r : Result T E) (P Q R : T → Type 0) (O : Type 0) → ((x : T) → P x → Q x → O → R x) → IfOk r P → IfOk r Q → OnOk r O → IfOk r R
 ok_of_three (Ok x) P Q R O step p q o = step x p q o
 ok_of_three (Err e) P Q R O step p q o = tt

@@ -66,6 +66,7 @@ module _ {D B : Type 0} (told : D → Option Told) (faults : D → ℕ) (memory 
   unused_place (Folder path) (share.Disk s) start (closed.Memory c) a kind out stands = absurd stands
   unused_place (Folder path) (share.Disk s) start (closed.Disk c) a kind out stands = out
 
+  -- the disk of a closed channel that made no call came back unused
   pub unused_back : (place : ChannelPlace) (s : EitherShared (D × FileState) B) (start : Opening) (c : EitherClosed (D × FileState) B) (a b : HostTold)
       → IsOfKind place s → StandsClosed (λ x. StandsOver (told x.0) (faults x.0) x.1) memory s start [] c → DisksBack (back_of told faults place c) a b → IsUnused place start a b
   unused_back Memory (share.Disk s) start c a b kind stands back = absurd (kind tt)

@@ -35,6 +35,7 @@ none_taken : (k : ℕ) → take k no_entries ≡ no_entries
 none_taken zero = refl
 none_taken (suc k) = refl
 
+-- a channel that was opened and made no call is idle
 pub idle_at_first : (before : Option Told) (o : Opening) → BeginsOver before o → IsIdle (opening o)
 idle_at_first before o b = record { kind = ap (λ (r : Rules). r.kind) b.rules; limits = ap (λ (r : Rules). r.limits) b.rules; opened = refl; staged = refl; whole = refl }
 
@@ -106,9 +107,11 @@ follows_at_first before told o b began =
     tells_by before told (Follows [] [] (opening o)) (sym b.tells ∙ began.stands.tells)
     (λ t u is_t is_u. begins told began.faults began.channel o began.stands t u is_u (b.from ∙ ap (λ (v : Option Told). moment_of v + 1) is_t) (began.settled u is_u) (b.opens t is_t))
 
+-- a folder that was opened holds no lines yet, and none is in doubt
 pub holds_at_first : (before told : Option Told) (o : Opening) → BeginsOver before o → Began told o → Tells before told (Holds [] [])
 holds_at_first before told o b began = tells_more before told (Follows [] [] (opening o)) (Holds [] []) (λ t u _ _ f. f.holds) (follows_at_first before told o b began)
 
+-- before the first line a store stands for what its folder opened to
 pub stands_at_first : (before told : Option Told) (o : Opening) → BeginsOver before o → Began told o → Stands before told [] (opening o)
 stands_at_first before told o b began = record {
   first = [];

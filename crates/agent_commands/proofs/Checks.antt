@@ -160,11 +160,13 @@ module _ (lacks : Lacking) (file : Option (List ℕ)) (agent : List ℕ) (s0 s1 
   rest : IsBeside s0 s2
   rest = subst (λ (s : HostState). IsBeside s s2) same beside
 
+  -- the plan's whole line was written, with the status 0
   pub printed : s2.faults ≡ s1.faults → s2.handed ≡ s2.output → Appends s1.output s2.output text → Checked lacks file agent s0 s2 0
   printed well handed whole =
       let A : HostState × List ℕ → Type 0 = λ x. Appends x.0.output s2.output x.1 in
       written lacks file agent s0 s2 p rest (well ∙ ap (λ (s : HostState). s.faults) same) handed planned (subst A (λ i. (same i, line i)) whole)
 
+  -- the output failed after a front of the plan's line, with the status 3
   pub printed_part : Rose s1.faults s2.faults → Fronts s1.output s2.output s1.faults s2.faults text → Checked lacks file agent s0 s2 3
   printed_part rose front =
       let F : HostState × List ℕ → Type 0 = λ x. Fronts x.0.output s2.output x.0.faults s2.faults x.1 in

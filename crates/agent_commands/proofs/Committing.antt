@@ -58,6 +58,7 @@ pub record HasOpen (start s : State) (token : Token) (events : List Content) : T
   pub life : token.life ≡ s.life
   pub txn : s.txn ≡ start.txn + 1
 
+-- a begin on an idle channel opens one transaction without events
 pub has_begun : (start s : State) (token : Token) → IsIdle start → Moves true start (BeginPut (Ok token)) s → HasOpen start s token []
 has_begun start s token idle moves =
     let is = moves.state in
@@ -72,6 +73,7 @@ has_begun start s token idle moves =
       txn = ap (λ (x : State). x.txn) is;
     }
 
+-- a transaction that was begun had a number left
 pub begun_below : (start s : State) (token : Token) → Moves true start (BeginPut (Ok token)) s → start.txn < 2 ^ 64 - 1
 begun_below start s token moves = (few_opened start moves.admitted.0).2
 
@@ -185,6 +187,7 @@ pub record HasStaged (start s : State) (event : Content) : Type 0 where
   pub whole : s.broken ≡ false
   pub txn : s.txn ≡ start.txn + 1
 
+-- a stage closes the transaction and stages its event
 pub has_staged : (start s s' : State) (token : Token) (event : Content) (ticket : Ticket) → HasOpen start s token (event ∷ []) → Moves true s (StagePut token (Ok ticket)) s' → HasStaged start s' event
 has_staged start s s' token event ticket has moves =
     let is : s' ≡ record s { opened = without_entry token.number s.opened; staged = s.staged ++ one_put event } = moves.state ∙ ap (λ (e : Option Entry). stage token.number e s) (open_entry start s token (event ∷ []) has) in
@@ -205,9 +208,11 @@ stage_asks start s token event idle has =
     let next : next_number s ≡ start.first = rw has.staged (omega (arith, ap (λ (b : Base). b.first) has.base)) in
     rw (list, has.whole, kind, next) refl
 
+-- an event that was staged had a number left
 pub staged_below : (start s s' : State) (token : Token) (event : Content) (ticket : Ticket) → IsIdle start → HasOpen start s token (event ∷ []) → Moves true s (StagePut token (Ok ticket)) s' → start.first < 2 ^ 64 - 1
 staged_below start s s' token event ticket idle has moves = let r = sym (stage_asks start s token event idle has) ∙ moves.admitted.0 in grind (arith, nat_tests)
 
+-- a stage is refused only for want of a number, and changes nothing
 pub not_staged : (start s s' : State) (token : Token) (event : Content) (cause : StageCause) → IsIdle start → HasOpen start s token (event ∷ []) → Moves true s (StagePut token (Err cause)) s' → (2 ^ 64 - 1 ≤ start.first) × (s' ≡ s)
 not_staged start s s' token event cause idle has moves = (let r = sym (stage_asks start s token event idle has) ∙ moves.admitted in grind (arith, nat_tests), moves.state)
 
@@ -336,6 +341,7 @@ puts_none told told' s s' event state images same = record {
   spent = λ t is log. (λ is. absurd cc, same);
 }
 
+-- what is known of an event that was refused, as the channel is at its end or no log file is left
 pub puts_refused : (told told' : Option Told) (s s' : State) (event : Content) → IsIdle s' × (base_of s' ≡ base_of s) × (s.txn ≤ s'.txn) → Tells told told' (Stays s) → IsFull s ⊎ HasSpentLog told'
     → WhereTold told (λ t. IsSpentLog t default_limits.max_file → told' ≡ told) → PutsOne event LineVerdict.Refused told told' s s'
 puts_refused told told' s s' event state images cause same = record {
@@ -346,6 +352,7 @@ puts_refused told told' s s' event state images cause same = record {
   spent = λ t is log. (λ is. absurd cc, same t is log);
 }
 
+-- what is known of an event that is in doubt
 pub puts_doubt : (told told' : Option Told) (s s' : State) (event : Content) → Tells told told' (MayLeave s event) → WhereTold told (λ t. IsSpentLog t default_limits.max_file → ⊥) → PutsOne event LineVerdict.InDoubt told told' s s'
 puts_doubt told told' s s' event images no_end = record {
   state = tt;
@@ -373,6 +380,7 @@ same_state s s' is idle = (subst IsIdle (sym is) idle, ap base_of is, let e : s'
 pub no_event : (told : Option Told) (s : State) (event : Content) → IsIdle s → Rests told s → PutsOne event LineVerdict.NoMemory told told s s
 no_event told s event idle rests = puts_none told told s s event (idle, refl) (rests_stay told s idle rests) refl
 
+-- what is known of an event whose transaction was not begun
 pub begin_refused : (told told' : Option Told) (s s' : State) (event : Content) (e : BeginRefused) → IsIdle s → Rests told s → told' ≡ told → Moves true s (BeginPut (Err e)) s' → PutsOne event (begin_verdict e) told told' s s'
 begin_refused told told' s s' event BeginNo.NoMemory idle rests same moves =
     let is = same_state s s' moves.state idle in
@@ -459,6 +467,7 @@ module _ (told0 told1 told2 told3 : Option Told) (s s1 s2 s3 : State) (token : T
       images4 : Tells told3 told4 (λ t u. Flushed s3 t u) → Tells told0 told4 (MayLeave s event)
       images4 flushed = on_gains told0 told3 told4 s event (subst (λ (o : Option Told). Tells told0 o (Stays s)) (sym same3) images2) (staged_gain told3 told4 s s3 event has3 flushed)
 
+      -- a flush that was done has the event accepted
       pub is_done : Moves true s3 (Flush (Ok tt)) s4 → Tells told3 told4 (λ t u. Flushed s3 t u) → PutsOne event LineVerdict.Accepted told0 told4 s s4
       is_done settled flushed = record {
         state = has_settled s s3 s4 event idle has3 settled;
@@ -474,6 +483,7 @@ module _ (told0 told1 told2 told3 : Option Told) (s s1 s2 s3 : State) (token : T
         spent = λ t is at. absurd (has_log t is at);
       }
 
+      -- a flush that was refused leaves the event in doubt
       pub is_in_doubt : (e : FlushRefused) → Moves true s3 (Flush (Err e)) s4 → (flushes (Flush (Err e)) ≡ true → Tells told3 told4 (λ t u. Flushed s3 t u)) → PutsOne event LineVerdict.InDoubt told0 told4 s s4
       is_in_doubt FlushNo.Broken moves flushed = absurd (let no = sym moves.admitted ∙ has3.whole in cc)
       is_in_doubt (FlushNo.Spent counter) moves flushed = absurd moves.admitted

@@ -25,6 +25,7 @@ goes said.Refused is = tt
 goes said.InDoubt is = absurd (true≢false is)
 goes said.NoMemory is = absurd (true≢false is)
 
+-- lines that did not end the run are lines after which it goes on
 pub all_go : (vs : List LineVerdict) → All (Continues ends_run) vs → All GoesOn vs
 all_go [] all = All-nil GoesOn
 all_go (v ∷ vs) all = All-cons GoesOn v vs (goes v (All-head (Continues ends_run) v vs all)) (all_go vs (All-tail (Continues ends_run) v vs all))
@@ -45,6 +46,7 @@ or_last true c is = absurd (true≢false is)
 or_last false true is = refl
 or_last false false is = refl
 
+-- of lines and further lines one is in doubt if one is in either part
 pub doubt-append : (vs ws : List LineVerdict) → has_doubt (vs ++ ws) ≡ has_doubt vs || has_doubt ws
 doubt-append [] ws = refl
 doubt-append (v ∷ vs) ws = ap (λ (b : Bool). is_in_doubt v || b) (doubt-append vs ws) ∙ sym (or_assoc (is_in_doubt v) (has_doubt vs) (has_doubt ws))
@@ -79,6 +81,7 @@ first_last (x ∷ y ∷ done) [] last is all = absurd (let n = ap length is in o
 first_last (x ∷ y ∷ done) (v ∷ first) last is all =
     (subst GoesOn (sym (ap (λ (l : List LineVerdict). head_or v l) is)) (All-head GoesOn v first all), first_last (y ∷ done) first last (ap tail_of is) (All-tail GoesOn v first all))
 
+-- however a session ended, all lines but the last let it go on
 pub first_go : (end : SessionEnd) (max : ℕ) (done : List Handled) (rest sent : List ℕ) → EndsBy true ends_run max end (verdicts_of done) rest sent → FirstGo done
 first_go End max done rest sent e = first_all done (all_go (verdicts_of done) e.0.going)
 first_go TooLongLine max done rest sent e = first_all done (all_go (verdicts_of done) e.0.going)
@@ -128,18 +131,21 @@ module _ {T : Type 0} (Takes : T → List ℕ → LineVerdict → T → Type 0) 
     stands = here;
   }
 
+  -- a session that came to the end of the input had handled and answered all of it
   pub served_end : end ≡ End → IsAtEnd new.left × Served 512 (λ size. size < 2 ^ 40) Rest old.left new.left old.took new.took Stands
   served_end is =
       let e = subst (λ (x : SessionEnd). EndsBy true ends_run 512 x (verdicts_of s.done) s.rest s.sent) is s.ends in
       let at = subst (λ (x : SessionEnd). EndsAt x (length bytes) new.left) is s.at in
       (at.1, whole (λ size. size < 2 ^ 40) Rest e.0 e.1 at.0)
 
+  -- a session that was full had handled and answered as many bytes as it may read
   pub served_full : end ≡ Full → Served 512 (λ size. size ≡ 2 ^ 40) Rest old.left new.left old.took new.took Stands
   served_full is =
       let e = subst (λ (x : SessionEnd). EndsBy true ends_run 512 x (verdicts_of s.done) s.rest s.sent) is s.ends in
       let at = subst (λ (x : SessionEnd). EndsAt x (length bytes) new.left) is s.at in
       whole (λ size. size ≡ 2 ^ 40) Rest e.0 e.1 at
 
+  -- a session that met a line too long had handled and answered all before it
   pub served_long : end ≡ TooLongLine → Served 512 (λ size. size ≤ 2 ^ 40) TooLong old.left new.left old.took new.took Stands
   served_long is =
       let e = subst (λ (x : SessionEnd). EndsBy true ends_run 512 x (verdicts_of s.done) s.rest s.sent) is s.ends in
@@ -202,5 +208,6 @@ module _ {T : Type 0} (Takes : T → List ℕ → LineVerdict → T → Type 0) 
         part (rose refl) TooLong (flat_map (reply true) (verdicts_of s.done)) (end_reply TooLong) e.count e.front (λ is. (e.long, all_go (verdicts_of s.done) e.going))
         (take-append-add (flat_map (reply true) (verdicts_of s.done)) (end_reply TooLong) e.count)
 
+    -- a session that was cut short had handled the first lines and written a front of their replies
     pub stopped : (end ≡ WriteFault → Rose before now) → (end ≡ End → ⊥) → (end ≡ TooLongLine → ⊥) → (end ≡ Full → ⊥) → Stopped 512 old.left new.left old.took new.took before now Stands
     stopped rose a b c = stopped_by end s.ends rose (a, b, c)

@@ -462,5 +462,6 @@ module _ (o : Opening) (all : List Step) (numbers : List ℕ) (mine : AllOf numb
         let e : EndsBegin (Stood o all numbers) (length all) (event ∷ []) (Ok token) (earlier ++ x) ending result = subst (λ (l : List Own). EndsBegin (Stood o all numbers) (length all) (event ∷ []) (Ok token) (earlier ++ l) ending result) k.1 ends in
         by_put token before k.0 ending is1 e.0 e.1 e.2 e.3 e.4 result e.5
 
+    -- what the put transaction of one event came to, by its answer
     pub line_made : (result : Result ℕ FaceRefused) → IsPutBatch (Stood o all numbers) (length all) (event ∷ []) result earlier its → LineMade tells end its rest event (verdict_of result) s told
     line_made result b = by_begin b.0 b.1 b.2 b.3 b.4 b.5 result b.6

@@ -370,6 +370,7 @@ face_three (face.Stage StageNo.Broken) own = absurd own
 face_three (face.Stage (StageNo.Full n)) own = absurd own
 face_three face.InDoubt own = inl (refl, refl)
 
+-- a refusal with a cause of the generator's own has the status 3 exactly where it is a fault
 pub cause_three : (why : LoadRefused) → IsOwnCause why → IsThree (faulty_cause why) (refused_status why)
 cause_three (load.Face why) own = face_three why own
 cause_three (load.Check (CheckNo.Spent counter)) own = inr (refl, inl refl)

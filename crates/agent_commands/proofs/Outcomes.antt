@@ -55,6 +55,7 @@ module _ {S T : Type 0} (view : S → T) (Takes : T → List ℕ → LineVerdict
   abbrev pub Viewed : S → List ℕ → LineVerdict → S → Type 0
   Viewed a line said b = Takes (view a) line said (view b)
 
+  -- a session through a store is also one through what is seen of the store
   pub viewed : (max : ℕ) (ack : Bool) (stops : LineVerdict → Bool) (old new : Ends S) (end : SessionEnd) → ServedLines max ack stops Viewed old new end
       → ServedLines max ack stops Takes (ends_of old.left (view old.store) old.took) (ends_of new.left (view new.store) new.took) end
   viewed max ack stops old new end s =
@@ -96,6 +97,7 @@ module _ (s0 s1 s2 s3 s4 : HostState) (left left' took took' handed' : Option (L
   unread : own_in ≡ 0 → own_out ≡ 0 → s4.faults ≡ s0.faults
   unread none_in none_out = faults4 ∙ c6.clean none_out ∙ faults3 ∙ c5.clean none_in ∙ faults2
 
+  -- the host's count of faults rose exactly where its input or output ended the session
   pub host_cause : (e : SessionEnd) (before_in before_out : ℕ) → before_in ≡ 0 → before_out ≡ 0 → HasCauseOf e before_in own_in before_out own_out → HostCause e s0.faults s4.faults
   host_cause End a b none_in none_out c = unread (c.0 ∙ none_in) (c.1 ∙ none_out)
   host_cause TooLongLine a b none_in none_out c = unread (c.0 ∙ none_in) (c.1 ∙ none_out)
@@ -105,12 +107,15 @@ module _ (s0 s1 s2 s3 s4 : HostState) (left left' took took' handed' : Option (L
   host_cause ReadFault a b none_in none_out c = read_rose (subst (λ (k : ℕ). Rose k own_in) none_in c.0.1)
   host_cause WriteFault a b none_in none_out c = write_rose (subst (λ (k : ℕ). Rose k own_out) none_out c.1.1)
 
+  -- the host's count of faults is no less after the session
   pub host_later : s0.faults ≤ s4.faults
   host_later = let a = c5.later in let b = c6.later in omega (arith, a, b, faults2, faults3, faults4)
 
+  -- where the output was flushed, the host handed on all that was written
   pub host_handed : handed' ≡ took' → s4.handed ≡ s4.output
   host_handed all = handed_is ∙ all ∙ sym output_is
 
+  -- a session over the ends that a host lent is one over the host's own
   pub host_served : {T : Type 0} (Takes : T → List ℕ → LineVerdict → T → Type 0) (e : SessionEnd) (x y : T) → ServedLines 512 true ends_run Takes (ends_of left x took) (ends_of left' y took') e
       → ServedLines 512 true ends_run Takes (ends_of s0.input x s0.output) (ends_of s4.input y s4.output) e
   host_served {T} Takes e x y served =
@@ -230,6 +235,7 @@ module _ {T : Type 0} (Takes : T → List ℕ → LineVerdict → T → Type 0) 
     calls = p.puts;
   }
 
+  -- what a session through the channel's only pass comes to, with the status of its end
   pub piped : (e : SessionEnd) (s : Lines e) → Passed before after f' start w s.done → HostCause e s0.faults s4.faults → (e ≢ WriteFault → s4.handed ≡ s4.output) → Piped s0 s4 before after start.faults f' (end_status e) (Some w)
   piped End s p cause handed =
       let going = all_go (verdicts_of s.done) s.ends.0.going in
@@ -333,6 +339,7 @@ ended_early old new before after a b status same_input same_output which folder 
     not_well : IsWellStatus status → ⊥
     not_well is = elim is [ inl zero ↦ other zero which | inr more ↦ elim more [ inl six ↦ other6 six which | inr seven ↦ other7 seven which ] ]
 
+-- what a run comes to that ended before any line, as no channel was opened
 pub early : (old new : HostState) (before after : Option Told) (a b status : ℕ) → new.input ≡ old.input → new.output ≡ old.output → (status ≡ 3) ⊎ ((status ≡ 4) ⊎ (status ≡ 5)) → Tells before after IsUnopened
     → (status ≡ 3 → Rose old.faults new.faults ⊎ Rose a b) → (status ≡ 4 → Tells before after IsRefusedFolder) → (status ≡ 5 → b ≡ a) → Piped old new before after a b status None
 early old new before after a b status same_input same_output which unopened fault held memory = ended_early old new before after a b status same_input same_output which (inr unopened) fault held memory
@@ -351,6 +358,7 @@ closed_at_once s before told a b faults c start st begins same is =
 pub untouched : (told : Option Told) → Tells told told IsUnopened
 untouched told = tells_same told IsUnopened (λ t _. record { reads = inl (λ name. refl); images = started t (λ image. IsImage t.now image ⊎ IsAsBefore t.reads image) (λ image left. inl left) })
 
+-- a folder that stays as it is for a cause reads as before
 pub stays : (cause : OpenCause) (files folder : Files) → StaysAs cause files folder → IsAsBefore files folder
 stays causes.DiskFault files folder is = is
 stays (causes.BadCheck file at) files folder is = inl is
@@ -359,6 +367,7 @@ stays (causes.OverCapacity count) files folder is = inl is
 stays (causes.Spent counter) files folder is = inl is
 stays causes.NoMemory files folder is = inl is
 
+-- a folder that was refused for what it holds has the same files as before
 pub same_files : (cause : OpenCause) (files folder : Files) → IsOfFolder cause → StaysAs cause files folder → AreSame files folder
 same_files causes.DiskFault files folder of is = absurd of
 same_files (causes.BadCheck file at) files folder of is = is

@@ -65,6 +65,7 @@ module _ {C : Type 0} (stands : C → Opening → List Step → Type 0) (o : Ope
     subst (λ (k : Known). Later p k) (sym same) (later_none p),
   )
 
+  -- lines that a pass took are calls of that pass, one run after another
   pub made_all : (done : List Handled) (p q : Known) → TakesAll (PutsLine stands) p done q → q.view.base ≡ o → q.view.numbers ≡ numbers → IsPrefix q.view.seen h → Made o h numbers p q done
   made_all [] p q same base named begins = record {
     later = subst (λ (k : Known). Later p k) (sym same) (later_none p);

@@ -36,6 +36,7 @@ abbrev pub faulty : List Own → Bool
 faulty [] = false
 faulty (o ∷ own) = is_fault o.call || faulty own
 
+-- where all calls carry one's numbers, one's own calls are all of them
 pub all_recorded : (numbers : List ℕ) (s : State) (h : List Step) → AllOf numbers h → own_calls numbers s h ≡ recorded s h
 all_recorded numbers s [] all = refl
 all_recorded numbers s (step ∷ h) all =
@@ -46,18 +47,22 @@ all_front : (numbers : List ℕ) (a more : List Step) → AllOf numbers (a ++ mo
 all_front numbers [] more all = tt
 all_front numbers (step ∷ a) more all = (all.0, all_front numbers a more all.1)
 
+-- the recorded calls lead to the state after the history
 pub calls_to-recorded : (s : State) (h : List Step) → calls_to s (recorded s h) ≡ state_after s h
 calls_to-recorded s [] = refl
 calls_to-recorded s (step ∷ h) = calls_to-recorded (after s step.call) h
 
+-- calls and then further calls lead where both in turn do
 pub calls_to-append : (s : State) (a b : List Own) → calls_to s (a ++ b) ≡ calls_to (calls_to s a) b
 calls_to-append s [] b = refl
 calls_to-append s (o ∷ a) b = calls_to-append (after s o.call) a b
 
+-- what two runs of calls settled is what the first did and then the second
 pub settled_in-append : (s : State) (a b : List Own) → settled_in s (a ++ b) ≡ settled_in s a ++ settled_in (calls_to s a) b
 settled_in-append s [] b = refl
 settled_in-append s (o ∷ a) b = ap (λ (l : List Entry). kept_by s o.call ++ l) (settled_in-append (after s o.call) a b) ∙ sym (append_assoc (kept_by s o.call) (settled_in (after s o.call) a) (settled_in (calls_to (after s o.call) a) b))
 
+-- what the recorded calls settled is the history's journal
 pub settled_in-recorded : (s : State) (h : List Step) → settled_in s (recorded s h) ≡ journal s h
 settled_in-recorded s [] = refl
 settled_in-recorded s (step ∷ h) = ap (λ (l : List Entry). kept_by s step.call ++ l) (settled_in-recorded (after s step.call) h)
@@ -66,14 +71,17 @@ or_assoc : (a b c : Bool) → (a || b) || c ≡ a || (b || c)
 or_assoc true b c = refl
 or_assoc false b c = refl
 
+-- two runs of calls failed where either did
 pub faulty-append : (a b : List Own) → faulty (a ++ b) ≡ faulty a || faulty b
 faulty-append [] b = refl
 faulty-append (o ∷ a) b = ap (λ (x : Bool). is_fault o.call || x) (faulty-append a b) ∙ sym (or_assoc (is_fault o.call) (faulty a) (faulty b))
 
+-- the recorded calls failed exactly where the history has a fault
 pub faulty-recorded : (s : State) (h : List Step) → faulty (recorded s h) ≡ has_fault h
 faulty-recorded s [] = refl
 faulty-recorded s (step ∷ h) = ap (λ (x : Bool). is_fault step.call || x) (faulty-recorded (after s step.call) h)
 
+-- as many calls are recorded as the history has
 pub length-recorded : (s : State) (h : List Step) → length (recorded s h) ≡ length h
 length-recorded s [] = refl
 length-recorded s (step ∷ h) = ap (λ (n : ℕ). suc n) (length-recorded (after s step.call) h)
@@ -114,6 +122,7 @@ pub record First (tells : Bool) (end : Option Told) (s : State) (told : Option T
   pub run : IsRun tells (after s call) h
   pub rest : recorded (after s call) h ≡ more
 
+-- the first of the calls that are still to come is the next step of the trail
 pub first : (tells : Bool) (end : Option Told) (s : State) (told : Option Told) (h : List Step) (call : Call) (before : State) (moment : ℕ) (more : List Own)
     → recorded s h ≡ one call before moment ++ more → Trail s told h end → IsRun tells s h → First tells end s told call before more
 unfolding first_of rest_of

@@ -122,6 +122,7 @@ module _ (t u v : Told) (s : State) (done : List Handled) (line : List ℕ) (f :
   keeps_lines : (image : Files) → Keeps (base_of s) image → GivesLines b lines image
   keeps_lines image keeps = (keeps.0, subst (λ (x : Base). OpensTo image x keeps.0) f.base keeps.1)
 
+  -- the base with the line's event is what lies behind the lines and this one
   pub with_line : after_journal (base_of s) (one_put (event_of line)) ≡ behind f.holds.base (lines_in f.holds.acks ++ line ∷ [])
   with_line = ap (λ (x : Base). after_journal x (one_put (event_of line))) f.base ∙ behind-push b lines line
 
@@ -210,6 +211,7 @@ module _ (t u v : Told) (s : State) (done : List Handled) (line : List ℕ) (f :
       | inr last ↦ fits (full_at_end (subst (λ (k : ℕ). IsAtEnd b f.holds.txn k) (let one = length-append acks (new ∷ []) in omega (arith, below, last, one)) end))
     ]
 
+    -- a line that was accepted joins those that were acknowledged
     pub one_accepted : Follows (and_then done line Accepted) [] s' t v
     one_accepted = record {
       holds = record {
@@ -291,6 +293,7 @@ module _ (t u v : Told) (s : State) (done : List Handled) (line : List ℕ) (f :
       | inr is ↦ one_front b lines line (lines ++ line ∷ []) acked image refl same (may.0, subst (λ (x : Base). OpensTo image x may.0) with_line is)
     ]
 
+    -- a line in doubt may be found behind those that were acknowledged
     pub one_in_doubt : (f.holds.refused ≡ []) ⊎ (IsAtEnd b f.holds.txn (length acks) ⊎ IsSpentLog v default_limits.max_file) → Holds done (line ∷ []) t v
     one_in_doubt ends = record {
       base = b;
@@ -333,6 +336,7 @@ module _ (t u v : Told) (told told' : Option Told) (s s' : State) (done : List H
     | inr ends ↦ ends
   ]
 
+-- a line handled after others adds its verdict after theirs
 pub verdicts-push : (done : List Handled) (line : List ℕ) (verdict : LineVerdict) → verdicts_of (and_then done line verdict) ≡ verdicts_of done ++ verdict ∷ []
 verdicts-push done line verdict = map-append (λ (h : Handled). h.verdict) done (record { line = line; verdict = verdict } ∷ [])
 
@@ -373,6 +377,7 @@ module _ (before told told' : Option Told) (s s' : State) (done : List Handled) 
     goes_on = λ is. some_last is;
   }
 
+  -- whatever the verdict, the store stands for the lines with this one more
   pub stands_more : (verdict : LineVerdict) → PutsOne (event_of line) verdict told told' s s' → Rests told' s' → Stands before told' (and_then done line verdict) s'
   stands_more Accepted step rests = goes_more Accepted tt (follows before told told' (Follows done [] s) (λ u v. LeavesOnly u v (MayGain (base_of s) (event_of line))) (Follows (and_then done line Accepted) [] s')
       (λ t u v is_t is_u is_v f run. one_accepted t u v s done line f s' step.state.0 step.state.1 step.state.2 run (λ image left. let r = rests step.state.0.whole v is_v image left in (r.0, r.2)) (step.fits refl) (λ at. (step.spent u is_u at).0 refl)) so_far step.images)

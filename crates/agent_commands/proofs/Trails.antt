@@ -18,6 +18,7 @@ trail_push s told mid told' (x ∷ h) step trail touch = (trail.0, trail.1, trai
 
 -- the channel's next call
 module _ (told told' : Option Told) (faults faults' : ℕ) (c c' : FileState) (call : Call) (moment : ℕ) (step : AddsOne (StandsOver told faults c) (StandsOver told' faults' c') call moment) (rests : Shows (StandsOver told' faults' c') (Rests told')) where
+  -- a traced channel's next call adds one step to its trail
   pub adds : (may_change call ≡ false → told' ≡ told) → Shows (StandsOver told faults c) (λ s. flushes call ≡ true → Tells told told' (Flushed s)) → Shows (StandsOver told faults c) (λ s. FindsLog s call told)
       → AddsOne (StandsTraced told faults c) (StandsTraced told' faults' c') call moment
   adds quiet flushed log start h pass st =
@@ -60,6 +61,7 @@ trail_keep false s told mid told' step h is touch trail =
     let none = uncounted s step.call is in
     subst (λ (x : State × Option Told). Trail x.0 x.1 h told') (λ i. (none.0 i, touch.quiet none.1 i)) trail
 
+-- calls that are not counted may be left out of a trail
 pub trail_counted : (s : State) (told told' : Option Told) (all : List Step) → Trail s told all told' → Trail s told (counted_calls all) told'
 trail_counted s told told' [] trail = trail
 trail_counted s told told' (step ∷ all) trail = trail_keep (is_counted step.call) s told trail.0 told' step (counted_calls all) refl trail.1 (trail_counted (after s step.call) trail.0 told' all trail.2)
@@ -68,6 +70,7 @@ fault_keep : (b : Bool) (step : Step) (all h : List Step) → is_counted step.ca
 fault_keep true step all h is s same = ap (λ (x : Bool). is_fault step.call || x) same
 fault_keep false step all h is s same = ap (λ (x : Bool). x || has_fault all) (uncounted s step.call is).2 ∙ same
 
+-- calls that are not counted have no fault
 pub fault_counted : (s : State) (all : List Step) → has_fault all ≡ has_fault (counted_calls all)
 fault_counted s [] = refl
 fault_counted s (step ∷ all) = fault_keep (is_counted step.call) step all (counted_calls all) refl s (fault_counted s all)

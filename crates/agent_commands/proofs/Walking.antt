@@ -99,6 +99,7 @@ module _ (saw : List Own → State → Type 0) (seen : ℕ) where
       let b = begin_ends_few event x.0 (earlier ++ x.2) x.3 result x.6 in
       omega (arith, n, a, b, length-append x.2 x.3)
 
+-- each line came to four calls at most
 pub puts_of_few : (o : Opening) (h : List Step) (numbers : List ℕ) (earlier : List Own) (done : List Handled) (own : List Own) → ArePutsOf o h numbers earlier done own → length own ≤ 4 * length done
 puts_of_few o h numbers earlier [] own puts = let n = ap length puts in omega (arith, n)
 puts_of_few o h numbers earlier (x ∷ done) own puts =
@@ -151,6 +152,7 @@ module _ (before end : Option Told) (o : Opening) (all : List Step) (numbers : L
     fault = ap faulty is ∙ faulty-append its rest ∙ ap (λ (b : Bool). b || faulty rest) l.fault ∙ ap (λ (b : Bool). is_in_doubt x.verdict || b) w.fault;
   }
 
+  -- a session's lines, one after another, from an idle channel on
   pub walk : (done first : List Handled) (earlier own : List Own) (s : State) (told : Option Told) (h : List Step) → FirstGo done → All (IsLine 512) (lines_of done) → All GoesOn (verdicts_of first) → Stands before told first s → IsIdle s → 1 ≤ s.frame → Rests told s
       → calls_to (opening o) earlier ≡ s → Trail s told h end → IsRun tells s h → recorded s h ≡ own → ArePutsOf o all numbers earlier done own → Walked before end done s own first
   walk [] first earlier own s told h go each going st idle frame rests to trail run ahead puts =

@@ -35,6 +35,7 @@ linked_many (plan.Plugin name line) given (link.Step copy) is = absurd is
 linked_many (plan.Plugin name line) given (link.Regex copy) is = absurd is
 linked_many (plan.Plugin name line) given (link.Boxed object) is = ap length is
 
+-- interceptors have as many objects as they ask for in all
 pub dealt_many : {B : Type 0} (steps : List StepPlan) (own : List B) (links : List (LinkPlan B)) → Deals IsLink steps own links → length own ≡ length (flat_map asks_of_step steps)
 dealt_many [] own [] none = ap length none
 dealt_many [] own (made ∷ links) none = absurd none
@@ -61,6 +62,7 @@ next_asks steps i step below is =
 
 -- the front of a list that has so many, and what is behind it
 module _ {B : Type 0} where
+  -- the given objects are the first so many of all
   pub front_of : (given rest all : List B) (n : ℕ) → all ≡ given ++ rest → length given ≡ n → given ≡ take n all
   front_of given rest all n is many = sym (ap (take n) is ∙ ap (λ (k : ℕ). take k (given ++ rest)) (sym many) ∙ front given)
     where
@@ -68,6 +70,7 @@ module _ {B : Type 0} where
       front [] = refl
       front (x ∷ xs) = ap (λ (l : List B). x ∷ l) (front xs)
 
+  -- the rest is what is behind the first so many
   pub back_of : (given rest all : List B) (n : ℕ) → all ≡ given ++ rest → length given ≡ n → rest ≡ drop n all
   back_of given rest all n is many = sym (ap (drop n) is ∙ ap (λ (k : ℕ). drop k (given ++ rest)) (sym many) ∙ back given)
     where
@@ -77,11 +80,13 @@ module _ {B : Type 0} where
 
 -- the interceptors of a source took the first of the objects, and left the rest
 module _ {B : Type 0} (source : SourcePlan) (steps : List StepPlan) (old new : List B) (plans : List (LinkPlan B)) (same : steps ≡ source.steps.items) where
+  -- the interceptors of a source are built with the objects it asks for
   pub linked : (given : List B) × (old ≡ given ++ new) × Deals IsLink steps given plans → Deals IsLink source.steps.items (take (length (asks_of_source source)) old) plans
   linked (given, from, dealt) =
       subst (λ (x : List StepPlan × List B). Deals IsLink x.0 x.1 plans)
       (λ i. (same i, front_of given new old (length (asks_of_source source)) from (dealt_many steps given plans dealt ∙ ap (λ (l : List StepPlan). length (flat_map asks_of_step l)) same) i)) dealt
 
+  -- behind a source's own objects are those for the next ones
   pub left_of : (given : List B) × (old ≡ given ++ new) × Deals IsLink steps given plans → new ≡ drop (length (asks_of_source source)) old
   left_of (given, from, dealt) =
       back_of given new old (length (asks_of_source source)) from (dealt_many steps given plans dealt ∙ ap (λ (l : List StepPlan). length (flat_map asks_of_step l)) same)
@@ -94,21 +99,25 @@ left_at [] place objects = objects
 left_at (s ∷ sources) zero objects = objects
 left_at (s ∷ sources) (suc place) objects = left_at sources place (drop (length (asks_of_source s)) objects)
 
+-- a source at a place asks for as many objects as its own plan says
 pub many_there : (sources : List SourcePlan) (at : ℕ) (d : SourcePlan) → at < length sources → many_at sources at ≡ length (asks_of_source (get_or sources at d))
 many_there [] at d below = absurd (omega (arith, below))
 many_there (s ∷ sources) zero d below = refl
 many_there (s ∷ sources) (suc at) d below = many_there sources at d (omega (arith, below))
 
 module _ {B : Type 0} where
+  -- before the first source all objects are left
   pub none_used : (sources : List SourcePlan) (all : List B) → left_at sources 0 all ≡ all
   none_used [] all = refl
   none_used (s ∷ sources) all = refl
 
+  -- the first of what is left at a source's place are its own
   pub own_first : (sources : List SourcePlan) (at : ℕ) (all : List B) → at < length sources → take (many_at sources at) (left_at sources at all) ≡ objects_at sources at all
   own_first [] at all below = absurd (omega (arith, below))
   own_first (s ∷ sources) zero all below = refl
   own_first (s ∷ sources) (suc at) all below = own_first sources at (drop (length (asks_of_source s)) all) (omega (arith, below))
 
+  -- once a source has its own, what is left is for the next place
   pub next_left : (sources : List SourcePlan) (at : ℕ) (all : List B) → at < length sources → drop (many_at sources at) (left_at sources at all) ≡ left_at sources (at + 1) all
   next_left [] at all below = absurd (omega (arith, below))
   next_left (s ∷ sources) zero all below = sym (none_used sources (drop (length (asks_of_source s)) all))
@@ -130,6 +139,7 @@ module _ {B : Type 0} where
 
 -- ---- the drafts of a source
 
+-- drafts of a source that asks for nothing use nothing
 pub used_none : (n : ℕ) → used_by n 0 ≡ 0
 used_none zero = refl
 used_none (suc n) = refl
@@ -170,6 +180,7 @@ module _ {B : Type 0} (many count place : ℕ) (old before after : List B) (once
       by (inl none) = inr none
       by (inr few) = inl (omega arith)
 
+  -- the objects before each draft are those before the first
   pub still_first : before ≡ old
   still_first = by first_or
     where
@@ -177,6 +188,7 @@ module _ {B : Type 0} (many count place : ℕ) (old before after : List B) (once
       by (inl first) = left ∙ ap (λ (n : ℕ). drop (used_by n many) old) first
       by (inr none) = left ∙ ap (λ (n : ℕ). drop (used_by place n) old) none ∙ ap (λ (n : ℕ). drop n old) (used_none place)
 
+  -- one draft more has used what it took
   pub used_next : after ≡ drop many before → after ≡ drop (used_by (place + 1) many) old
   used_next is =
       let next : suc place ≡ place + 1 = omega arith in
@@ -188,6 +200,7 @@ module _ {B : Type 0} (sources : List SourcePlan) (at : ℕ) (source : SourcePla
   many_is : many_at sources at ≡ length (asks_of_source source)
   many_is = many_there sources at source below ∙ ap (λ (s : SourcePlan). length (asks_of_source s)) (sym is)
 
+  -- a source that asks for objects has at most one listening session
   pub once_listening : (many_at sources at ≡ 0) ⊎ (n ≤ 1)
   once_listening = by (once_with source.kind (asks_of_source source))
     where
@@ -195,23 +208,28 @@ module _ {B : Type 0} (sources : List SourcePlan) (at : ℕ) (source : SourcePla
       by (inl none) = inl (many_is ∙ none)
       by (inr few) = inr (omega (arith, listening, few))
 
+  -- a source has at most one session on standard input
   pub once_input : (many_at sources at ≡ 0) ⊎ (m ≤ 1)
   once_input = inr (let few = inputs_once source.kind in omega (arith, inputs, few))
 
+  -- as many objects are left as the present source asks for
   pub enough_now : many_at sources at ≤ length left
   enough_now =
       let some : length (step_asks sources) ≤ length all = omega (arith, enough) in
       subst (λ (l : List B). many_at sources at ≤ length l) (sym lefts) (enough_left sources at all below some)
 
+  -- the first objects that are left are those of the present source
   pub own_now : take (many_at sources at) left ≡ objects_at sources at all
   own_now = ap (take (many_at sources at)) lefts ∙ own_first sources at all below
 
+  -- where there is a session on standard input, none that listens used objects
   pub same_between : (between : List B) → between ≡ drop (used_by n (many_at sources at)) left → 1 ≤ m → between ≡ left
   same_between between gone some =
       let one : 1 ≤ inputs_by source.kind = omega (arith, inputs, some) in
       let none : n ≡ 0 = listening ∙ inputs_alone source.kind (has_asks (asks_of_source source)) one in
       gone ∙ ap (λ (k : ℕ). drop (used_by k (many_at sources at)) left) none
 
+  -- after both kinds of sessions, what is left is for the next source
   pub left_next : (between after : List B) → between ≡ drop (used_by n (many_at sources at)) left → after ≡ drop (used_by m (many_at sources at)) between → after ≡ left_at sources (at + 1) all
   left_next between after gone then =
       let asks = asks_of_source source in

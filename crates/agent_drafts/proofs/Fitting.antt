@@ -60,6 +60,7 @@ module _ {B : Type 0} (count : ℕ) (draft : SourceDraft B) where
     named = subst (NamesBelow draft.selector) (sym (ap length is.channels)) (same_named source.selector draft.selector (length source.channels.items) is.selector within.1);
   }
 
+  -- a draft of any source within its limits has what its worker asks for
   pub fits_at : (sources : List SourcePlan) (objects : List B) (names : List HostNames) → IsDraftAt sources objects names draft → All (IsWithin count) sources → All (λ (s : SourcePlan). IsSourceLimited s.kind) sources → IsFit count draft
   fits_at [] objects names is within limits = absurd (omega (arith, is.there))
   fits_at (s ∷ sources) objects names is within limits =

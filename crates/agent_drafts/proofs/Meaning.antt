@@ -61,6 +61,7 @@ same_host : (use_ip : Bool) (host other : HostNames) → AreSameNames host other
 same_host true host other same = same.1
 same_host false host other same = same.0
 
+-- the copy of a step does the same to each event
 pub same_step : (step copy : Step) → IsSameStep step copy → DoesTheSame step copy
 same_step (Timestamp header preserve) (Timestamp key kept) is moment host other event names = λ i. set_unless (is.1 i) event (is.0 i) (decimal moment)
 same_step (Timestamp header preserve) (Host use_ip key kept) is moment host other event names = absurd is
@@ -146,6 +147,7 @@ same_wanted (Replace search text) (Filter other out) is does wanted = absurd is
 same_wanted (Replace search text) (Extract other copies) is does wanted = absurd is
 same_wanted (Replace search text) (Replace other put) is does wanted = wanted ∙ ap Replaces is.1
 
+-- what is built of the copy of a regex's keys is built of the keys
 pub same_keys : (keys copy : RegexKeys) → AreSameKeys keys copy → (built : Built) → IsStepOf copy built → IsStepOf keys built
 same_keys keys copy is built made = (subst (λ (t : List ℕ). BuiltOf t built.patterns) (same_text keys copy is) made.0, same_wanted keys copy is built.does made.1)
 
@@ -169,6 +171,7 @@ same_value : (pairs copies : List (String Global × Vec ℕ Global)) (key other 
     → mapped copies (value_of headers other) ≡ mapped pairs (value_of headers key)
 same_value pairs copies key other headers same is = same_mapped pairs copies (value_of headers other) same ∙ ap (λ (k : List ℕ). mapped pairs (value_of headers k)) is
 
+-- the copy of a selector requires the same channels
 pub same_required : (selector copy : Selector) → IsSameSelector selector copy → (headers : List Header) → required copy headers ≡ required selector headers
 same_required (Replicating channels others) (Replicating count copies) is headers = λ i. without (is.1 i) (places_below (is.0 i))
 same_required (Replicating channels others) (Multiplexing header mapping default maps) is headers = absurd is
@@ -177,6 +180,7 @@ same_required (Multiplexing header mapping default others) (Multiplexing copy ma
     let chosen = same_value mapping.items maps.items (string_bytes header) (string_bytes copy) headers is.1 is.0 in
     λ i. or_else (chosen i) (is.2 i)
 
+-- the copy of a selector has the same optional channels
 pub same_optional : (selector copy : Selector) → IsSameSelector selector copy → (headers : List Header) → optional copy headers ≡ optional selector headers
 same_optional (Replicating channels others) (Replicating count copies) is headers = λ i. without (without (is.1 i) (places_below (is.0 i))) (is.1 i)
 same_optional (Replicating channels others) (Multiplexing header mapping default maps) is headers = absurd is
@@ -205,6 +209,7 @@ one_planned (plan.Plugin name line) given (link_plan.Boxed object) (link.Step ma
 one_planned (plan.Plugin name line) given (link_plan.Boxed object) (link.Regex made) is built = absurd built
 one_planned {B} (plan.Plugin name line) given (link_plan.Boxed object) (link.Boxed made) is built = is ∙ ap (λ (o : B). o ∷ []) (sym built)
 
+-- interceptors built of copies do what was planned
 pub all_planned : {B : Type 0} (steps : List StepPlan) (own : List B) (plans : List (LinkPlan B)) (links : List (ChainLink B)) → Deals IsLink steps own plans → AreBuilt plans links
     → Deals IsAsPlanned steps own links
 all_planned [] own [] [] are built = are

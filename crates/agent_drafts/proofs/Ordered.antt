@@ -32,6 +32,7 @@ module _ {A : Type 0} (seen : A → ℕ) (before drafts after : List A) (made : 
       ap (map seen) is ∙ map-append seen drafts (made ∷ []) ∙ (λ i. front i ++ same i ∷ [])
       ∙ append_assoc (map seen before) (replicate n at) (at ∷ []) ∙ ap (λ (l : List ℕ). map seen before ++ l) (sym (replicate_more n at))
 
+  -- one more draft of a source has the next place among its own
   pub turns_more : (n : ℕ) → seen made ≡ n → map seen drafts ≡ map seen before ++ places_below n → map seen after ≡ map seen before ++ places_below (n + 1)
   turns_more n same front =
       let next : suc n ≡ n + 1 = omega arith in
@@ -54,6 +55,7 @@ pub record AreDraftsTo {B : Type 0} (many : SourcePlan → ℕ) (sources : List 
   pub each : All (IsDraftAt sources objects names) drafts
 
 module _ {B : Type 0} (many : SourcePlan → ℕ) (sources : List SourcePlan) (objects : List B) (names : List HostNames) where
+  -- all drafts of a source are made, and the next source follows
   pub drafts_next : (at count : ℕ) (d : SourcePlan) (drafts after : List (SourceDraft B)) → at < length sources → count ≡ many (get_or sources at d) → AreDraftsTo many sources at objects names drafts
       → map (λ (d : SourceDraft B). d.source) after ≡ map (λ (d : SourceDraft B). d.source) drafts ++ replicate count at
       → map (λ (d : SourceDraft B). d.place) after ≡ map (λ (d : SourceDraft B). d.place) drafts ++ places_below count
@@ -64,10 +66,12 @@ module _ {B : Type 0} (many : SourcePlan → ℕ) (sources : List SourcePlan) (o
     each = each;
   }
 
+  -- past the last source, all drafts are made
   pub all_drafts : (at : ℕ) (drafts : List (SourceDraft B)) → length sources ≤ at → AreDraftsTo many sources at objects names drafts → AreDrafts many sources objects names drafts
   all_drafts at drafts past are =
       let all = take_all at sources past in
       record { order = are.order ∙ ap (places_by many 0) all; turns = are.turns ∙ ap (turns_by many) all; each = are.each }
 
+  -- before the first source there are no drafts
   pub no_drafts : (drafts : List (SourceDraft B)) → drafts ≡ [] → AreDraftsTo many sources 0 objects names drafts
   no_drafts drafts none = subst (AreDraftsTo many sources 0 objects names) (sym none) (record { order = refl; turns = refl; each = All-nil (IsDraftAt sources objects names) })

@@ -44,6 +44,7 @@ among_append : (xs ys : List (List ℕ)) (p : List ℕ) → is_among (xs ++ ys) 
 among_append [] ys p = refl
 among_append (x ∷ xs) ys p = ap (λ (b : Bool). bytes_eq x p || b) (among_append xs ys p) ∙ sym (or_assoc (bytes_eq x p) (is_among xs p) (is_among ys p))
 
+-- the paths of some folders, and then of more
 pub paths_append : (a b : List RollBack) → paths_of (a ++ b) ≡ paths_of a ++ paths_of b
 paths_append a b = map-append (λ (back : RollBack). back.path) a b
 
@@ -78,6 +79,7 @@ told_else (back ∷ backs) p before not = here (λ rest. told_else backs p befor
 
 -- ---- folders come back
 
+-- where no folder came back, all is as before
 pub back_none : (f : Folders) → RollsBack [] f f
 back_none f = record { rolls = λ p. refl; opened = λ p. refl; disks = refl; disks_opened = refl }
 
@@ -109,9 +111,11 @@ back_marks backs f g back p is = back.opened p ∙ or_true (is_among (paths_of b
 
 -- ---- folders are opened
 
+-- where no folder was opened, all is as before
 pub out_none : (f : Folders) → RollsOut [] f f
 out_none f = record { told = λ p. refl; rolls = λ p not. refl; opened = λ p. refl; disks = refl; disks_opened = refl }
 
+-- one folder was opened, and shows what it did then
 pub out_one : (path : List ℕ) (told : Option Rolled) (f g : Folders) → ButRoll path f g → told ≡ opened (f.rolls path) → IsTrue (g.roll_opened path) → RollsOut (record { path = path; told = told } ∷ []) f g
 out_one path told f g but is marked = record { told = λ p. tells p (bytes_eq path p) refl; rolls = λ p not. rolls p (bytes_eq path p) refl not; opened = λ p. marks p (bytes_eq path p) refl; disks = but.disks; disks_opened = but.disks_opened }
   where
@@ -127,6 +131,7 @@ out_one path told f g but is marked = record { told = λ p. tells p (bytes_eq pa
     marks p true same = ap g.roll_opened (sym (same_path path p same)) ∙ marked
     marks p false other = but.opened p (other_path path p other)
 
+-- folders were opened, and then more
 pub out_then : (a b : List RollBack) (f g h : Folders) → RollsOut a f g → RollsOut b g h → RollsOut (a ++ b) f h
 out_then a b f g h first second = record {
   told = λ p. told_append a b p (opened (f.rolls p)) ∙ tells p (is_among (paths_of a) p) refl;
@@ -151,9 +156,11 @@ out_marks backs f g out p is = out.opened p ∙ or_true (is_among (paths_of back
 
 -- ---- folders are opened and come back
 
+-- what was opened before stays so after folders were opened and came back
 pub reopened_marks : (paths : List (List ℕ)) (f g : Folders) → Reopened paths f g → (p : List ℕ) → IsTrue (f.roll_opened p) → IsTrue (g.roll_opened p)
 reopened_marks paths f g back p is = back.opened p ∙ or_true (is_among paths p) (f.roll_opened p) is
 
+-- where none was opened and came back, all is the same
 pub reopened_none : (f g : Folders) → g ≡ f → Reopened [] f g
 reopened_none f g same = record {
   rolls = λ p. ap (λ (x : Folders). x.rolls p) same;

@@ -50,6 +50,7 @@ module _ {R A B : Type 0} (plans : List SinkPlan) (all : List (Option B)) (have 
   first : (o : Option B) → first_of left ≡ get_or all (length sinks) o
   first o = ap (λ (l : List (Option B)). first_of l) boxing.rest ∙ first_at all (length sinks) o within
 
+  -- the first of the objects left is what the next sink's kind asks for
   pub next_object : HasObject (get_or plans (length sinks) p).kind (first_of left)
   next_object =
       subst (λ (x : Option B). HasObject (get_or plans (length sinks) p).kind x) (sym (first (first_of left))) (object_at plans all have (length sinks) p (first_of left) below)
@@ -57,6 +58,7 @@ module _ {R A B : Type 0} (plans : List SinkPlan) (all : List (Option B)) (have 
   one_more : (sink : AgentSink R A B) → suc (length sinks) ≡ length (sinks ++ sink ∷ [])
   one_more sink = let many = length-append sinks (sink ∷ []) in omega (arith, many)
 
+  -- one more sink has its object, and the others are left
   pub boxing_more : (more : List (Option B)) (after : List (AgentSink R A B)) (sink : AgentSink R A B) → more ≡ rest_of left → after ≡ sinks ++ sink ∷ []
       → IsBoxed (get_or plans (length sinks) p).kind (first_of left) sink → Boxing plans all more after
   boxing_more more after sink behind is one = subst (Boxing plans all more) (sym is) (record {

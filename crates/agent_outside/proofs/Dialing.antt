@@ -24,6 +24,7 @@ use Rattle.agent_outside.proofs.Listening.{Between, all_out_then, between, is_fr
 
 -- ---- what the host shows
 
+-- one dialer came back to its host
 pub dial_one : (one : CameBack) (old new : HostState) (dialers : Option HandedOut) → new ≡ record old { dialers = dialers } → TakesBack one old.dialers dialers → DialersBack (one ∷ []) old new
 dial_one one old new dialers is back =
     let told : new.dialers ≡ dialers = ap (λ (s : HostState). s.dialers) is in
@@ -32,6 +33,7 @@ dial_one one old new dialers is back =
       told = subst (λ (l : Option HandedOut). Tells old.dialers l (AllBack (one ∷ []))) (sym told) (tells_more old.dialers dialers _ (AllBack (one ∷ [])) (λ t u _ _ b. all_one one t u b) back);
     }
 
+-- where no dialer came back, the host is as it was
 pub dials_none : (f : HostState) → DialersBack [] f f
 dials_none f = record { state = refl; told = tells_same f.dialers (AllBack []) (λ t _. record { out = λ host port. omega arith; back = sym (append-nil t.back) }) }
 
@@ -42,6 +44,7 @@ dials_then a b f g h first second = record {
   told = follows f.dialers g.dialers h.dialers (AllBack a) (AllBack b) (AllBack (b ++ a)) (λ t u v _ _ _ x y. all_then a b t u v x y) first.told second.told;
 }
 
+-- where no dialer went out, the host is as it was
 pub out_none : (f : HostState) → DialersOut [] f f
 out_none f = record { state = refl; told = tells_same f.dialers (AllOut []) (λ t _. record { out = λ host port. omega arith; back = refl }) }
 
@@ -60,6 +63,7 @@ all_out_one end old new out = record { out = λ host port. count host port (is_e
         let same = out.others host port other in
         omega (arith, none, same)
 
+-- one dialer went out, for its address and port
 pub out_one : (end : Endpoint) (old new : HostState) (dialers : Option HandedOut) → new ≡ record old { dialers = dialers } → Tells old.dialers dialers (GoesOut end.host end.port) → DialersOut (end ∷ []) old new
 out_one end old new dialers is out =
     let told : new.dialers ≡ dialers = ap (λ (s : HostState). s.dialers) is in
@@ -68,6 +72,7 @@ out_one end old new dialers is out =
       told = subst (λ (l : Option HandedOut). Tells old.dialers l (AllOut (end ∷ []))) (sym told) (tells_more old.dialers dialers _ (AllOut (end ∷ [])) (λ t u _ _ b. all_out_one end t u b) out);
     }
 
+-- some dialers went out, and then more
 pub out_then : (a b : List Endpoint) (f g h : HostState) → DialersOut a f g → DialersOut b g h → DialersOut (a ++ b) f h
 out_then a b f g h first second = record {
   state = second.state ∙ ap (λ (s : HostState). record s { dialers = h.dialers }) first.state;
@@ -92,6 +97,7 @@ dials_more plans i d below =
     ∙ ap (λ (l : List Endpoint). dials_of (take i plans) ++ l) (append-nil (dial_of (get_or plans i d).kind))
 
 module _ {R A B : Type 0} (dial : DialTold A) where
+  -- the dialer of one sink more stands after those of the others
   pub dials_last : (plans : List SinkPlan) (sinks : List (AgentSink R A B)) (sink : AgentSink R A B) (d : SinkPlan) → length sinks < length plans
       → dials_back dial plans (sinks ++ sink ∷ []) ≡ dials_back dial plans sinks ++ dial_back dial (get_or plans (length sinks) d).kind sink
   dials_last [] sinks sink d below = absurd (omega (arith, below))
@@ -100,6 +106,7 @@ module _ {R A B : Type 0} (dial : DialTold A) where
       ap (λ (l : List CameBack). dial_back dial p.kind s ++ l) (dials_last plans sinks sink d (omega (arith, below)))
       ∙ sym (append_assoc (dial_back dial p.kind s) (dials_back dial plans sinks) (dial_back dial (get_or plans (length sinks) d).kind sink))
 
+  -- one sink more has a new dialer, for its plan
   pub new_last : (all : Option HandedOut) (plans : List SinkPlan) (sinks : List (AgentSink R A B)) (sink : AgentSink R A B) (d : SinkPlan) → length sinks < length plans → HaveNewDials dial all plans sinks
       → HasNewDial dial all (get_or plans (length sinks) d).kind sink → HaveNewDials dial all plans (sinks ++ sink ∷ [])
   new_last all [] sinks sink d below have is = absurd (omega (arith, below))
@@ -117,6 +124,7 @@ module _ {R A B : Type 0} (dial : DialTold A) where
 
   -- ---- new dialers
 
+  -- a sink with a new dialer is one dialed for the address and port of its plan
   pub dialed_new : (all : Option HandedOut) (kind : SinkKind) (sink : AgentSink R A B) → HasNewDial dial all kind sink → IsDialed dial kind sink
   dialed_new all plan.Null sink has = tt
   dialed_new all (plan.Roll folder interval) sink has = tt
@@ -145,6 +153,7 @@ module _ {R A B : Type 0} (dial : DialTold A) where
 
   -- ---- by their plans
 
+  -- a sink's dialer comes back for the address and port of its kind
   pub one_ends : (f : Folders) (kind : SinkKind) (sink : AgentSink R A B) → IsOfKind f kind sink → ends_of (dial_back dial kind sink) ≡ dial_of kind
   one_ends f plan.Null (Null sink) is = refl
   one_ends f (plan.Roll folder interval) (Roll sink) is = refl
@@ -183,6 +192,7 @@ module _ {R A B : Type 0} (dial : DialTold A) where
   -- ---- one after the other
 
   module _ (plans : List SinkPlan) where
+    -- where no sink is opened yet, no dialer was handed out
     pub none_dialed : (s : HostState) → DialsOpened {R = R} {B = B} dial plans s s []
     none_dialed s = record { made = tt; out = out_none s }
 

@@ -16,15 +16,19 @@ use Rattle.agent_outside.specs.Ends.{AllBack, AreOfSources, AreOut, Listens, Lis
 
 -- ---- counts
 
+-- whether an end has this address and port is decided by comparing both
 pub end_decides : (host : List ℕ) (port : ℕ) (end : Endpoint) → Decides (is_end host port end) ((end.port ≡ port) × (end.host ≡ host))
 end_decides host port end = Decides-and (end.port == port) (bytes_eq end.host host) (Decides-eqb end.port port) (bytes_eq-Decides end.host host)
 
+-- how many ends of two rows are at an address and port
 pub count_append : (host : List ℕ) (port : ℕ) (a b : List Endpoint) → count_at host port (a ++ b) ≡ count_at host port a + count_at host port b
 count_append host port a b = sum_by-append (λ (end : Endpoint). cond (is_end host port end) 1 0) a b
 
+-- an end at this address and port counts as one
 pub count_yes : (host : List ℕ) (port : ℕ) (end : Endpoint) → is_end host port end ≡ true → count_at host port (end ∷ []) ≡ 1
 count_yes host port end is = rw is refl
 
+-- an end elsewhere counts as none
 pub count_no : (host : List ℕ) (port : ℕ) (end : Endpoint) → is_end host port end ≡ false → count_at host port (end ∷ []) ≡ 0
 count_no host port end is = rw is refl
 
@@ -34,6 +38,7 @@ count_own end = count_yes end.host end.port end ((end_decides end.host end.port 
 
 -- ---- one comes back
 
+-- one came back, as a row of one
 pub all_one : (one : CameBack) (old new : HandedOut) → ComesBack one old new → AllBack (one ∷ []) old new
 all_one one old new back = record { out = λ host port. out host port (is_end host port (record { host = one.host; port = one.port })) refl; back = back.back }
   where
@@ -48,6 +53,7 @@ all_one one old new back = record { out = λ host port. out host port (is_end ho
         let same = back.others host port other in
         omega (arith, none, same)
 
+-- a host took back one listener
 pub came_one : (one : CameBack) (old new : HostState) (listeners : Option HandedOut) → new ≡ record old { listeners = listeners } → TakesBack one old.listeners listeners → ListenersBack (one ∷ []) old new
 came_one one old new listeners is back =
     let told : new.listeners ≡ listeners = ap (λ (s : HostState). s.listeners) is in
@@ -58,9 +64,11 @@ came_one one old new listeners is back =
 
 -- ---- one after the other
 
+-- the ends of those that came back, and of more
 pub ends_append : (a b : List CameBack) → ends_of (a ++ b) ≡ ends_of a ++ ends_of b
 ends_append a b = map-append (λ (back : CameBack). record { host = back.host; port = back.port }) a b
 
+-- some came back, and then more, which stand in front
 pub all_then : (a b : List CameBack) (f g h : HandedOut) → AllBack a f g → AllBack b g h → AllBack (b ++ a) f h
 all_then a b f g h first second = record {
   out = λ host port.
@@ -71,12 +79,14 @@ all_then a b f g h first second = record {
   back = second.back ∙ ap (λ (l : List CameBack). l ++ reverse b) first.back ∙ append_assoc f.back (reverse a) (reverse b) ∙ ap (λ (l : List CameBack). f.back ++ l) (sym (reverse-append b a));
 }
 
+-- a host took back some listeners, and then more
 pub came_then : (a b : List CameBack) (f g h : HostState) → ListenersBack a f g → ListenersBack b g h → ListenersBack (b ++ a) f h
 came_then a b f g h first second = record {
   state = second.state ∙ ap (λ (s : HostState). record s { listeners = h.listeners }) first.state;
   told = follows f.listeners g.listeners h.listeners (AllBack a) (AllBack b) (AllBack (b ++ a)) (λ t u v _ _ _ x y. all_then a b t u v x y) first.told second.told;
 }
 
+-- where no listener came back, the host is as it was
 pub came_none : (f : HostState) → ListenersBack [] f f
 came_none f = record { state = refl; told = tells_same f.listeners (AllBack []) (λ t _. record { out = λ host port. omega arith; back = sym (append-nil t.back) }) }
 
@@ -87,6 +97,7 @@ pub out_last : (ends : List Endpoint) (end : Endpoint) (all : Option HandedOut) 
 out_last ends end None out = tt
 out_last ends end (Some all) out = λ host port. omega (arith, out host port, count_append host port ends (end ∷ []))
 
+-- where one listener is out, it is so at its own address and port
 pub out_own : (end : Endpoint) (all : Option HandedOut) → AreOut (end ∷ []) all → IsOut end.host end.port all
 out_own end None out = tt
 out_own end (Some all) out = omega (arith, out end.host end.port, count_own end)
@@ -100,16 +111,19 @@ out_rest ends one (Some old) (Some new) out tells = λ host port. omega (arith, 
 
 -- ---- sources by their places
 
+-- a place at which a source listens is the place of one of the sources
 pub below_listens : (sources : List SourcePlan) (place : ℕ) → ListensAt sources place → place < length sources
 below_listens [] place is = absurd is
 below_listens (s ∷ sources) zero is = omega arith
 below_listens (s ∷ sources) (suc place) is = omega (arith, below_listens sources place is)
 
+-- the end at a place is that of the source's kind there
 pub end_here : (sources : List SourcePlan) (place : ℕ) (d : SourcePlan) → place < length sources → end_at sources place ≡ end_of (get_or sources place d).kind
 end_here [] place d below = absurd (omega (arith, below))
 end_here (s ∷ sources) zero d below = refl
 end_here (s ∷ sources) (suc place) d below = end_here sources place d (omega (arith, below))
 
+-- a source at a place where one listens does so by its kind
 pub listens_here : (sources : List SourcePlan) (place : ℕ) (d : SourcePlan) → ListensAt sources place → Listens (get_or sources place d).kind
 listens_here [] place d is = absurd is
 listens_here (s ∷ sources) zero d is = is
@@ -124,6 +138,7 @@ from_here endpoint sources place d listener below is = subst (λ (e : Endpoint).
 
 -- ---- the last of some listeners
 
+-- the last of some listeners is of its source, and the others are of theirs
 pub of_last : {L : Type 0} (endpoint : L → Option Endpoint) (sources : List SourcePlan) (listeners : List (SourceListener L)) (l : SourceListener L) → AreOfSources endpoint sources (listeners ++ l ∷ [])
     → AreOfSources endpoint sources listeners × ListensAt sources l.source × IsFrom (end_at sources l.source).host (end_at sources l.source).port (endpoint l.listener)
 of_last endpoint sources [] l of = (tt, of.0, of.1)

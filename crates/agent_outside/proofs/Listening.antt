@@ -16,11 +16,13 @@ use Rattle.agent_outside.proofs.Ending.{count_append, count_own}
 
 -- ---- what is out
 
+-- a listener that was handed out is out at its address and port
 pub out_again : (end : Endpoint) (f g : Option HandedOut) → Tells f g (AllOut (end ∷ [])) → IsOut end.host end.port g
 out_again end f None tells = tt
 out_again end None (Some g) tells = absurd tells
 out_again end (Some f) (Some g) tells = omega (arith, tells.out end.host end.port, count_own end)
 
+-- some listeners were handed out, and then more
 pub all_out_then : (a b : List Endpoint) (f g h : HandedOut) → AllOut a f g → AllOut b g h → AllOut (a ++ b) f h
 all_out_then a b f g h first second = record { out = λ host port. omega (arith, first.out host port, second.out host port, count_append host port a b); back = second.back ∙ first.back }
 
@@ -36,18 +38,21 @@ listeners_then a b f g h first second = record {
 settled : (f h : HostState) → h ≡ record f { listeners = h.listeners } → h ≡ record f { listeners = h.listeners; faults = h.faults }
 settled f h is = is ∙ ap (λ (n : ℕ). record f { listeners = h.listeners; faults = n }) (sym (ap (λ (s : HostState). s.faults) is))
 
+-- what a fresh listener tells of its links does not change over calls
 pub same_fresh : (f g : Option HandedOut) (P : HandedOut → HandedOut → Type 0) → Tells f g P → fresh_links g ≡ fresh_links f
 same_fresh None None P tells = refl
 same_fresh None (Some g) P tells = absurd tells
 same_fresh (Some f) None P tells = absurd tells
 same_fresh (Some f) (Some g) P tells = refl
 
+-- the address and port that a host shows for a listener do not change over calls
 pub same_ends : (host : List ℕ) (port : ℕ) (f g : Option HandedOut) (P : HandedOut → HandedOut → Type 0) → Tells f g P → endpoint_of host port g ≡ endpoint_of host port f
 same_ends host port None None P tells = refl
 same_ends host port None (Some g) P tells = absurd tells
 same_ends host port (Some f) None P tells = absurd tells
 same_ends host port (Some f) (Some g) P tells = refl
 
+-- what is handed out for an address and port is from there
 pub is_from : (host : List ℕ) (port : ℕ) (all : Option HandedOut) → IsFrom host port (endpoint_of host port all)
 is_from host port None = tt
 is_from host port (Some all) = (refl, refl)
@@ -58,6 +63,7 @@ each_more fresh sources all [] l each is = (is, tt)
 each_more fresh sources all (x ∷ listeners) l each is = (each.0, each_more fresh sources all listeners l each.1 is)
 
 module _ {L : Type 0} (told : L → Option LinksTold) (endpoint : L → Option Endpoint) (waits faults : L → ℕ) where
+  -- a fresh listener is from its address and port
   pub from_fresh : (end : Endpoint) (all : Option HandedOut) (l : L) → IsFresh told endpoint waits faults end all l → IsFrom end.host end.port (endpoint l)
   from_fresh end all l fresh = subst (IsFrom end.host end.port) (sym fresh.from) (is_from end.host end.port all)
 
@@ -96,9 +102,11 @@ module _ {L : Type 0} (told : L → Option LinksTold) (endpoint : L → Option E
   -- ---- one after the other
 
   module _ (sources : List SourcePlan) where
+    -- where no listener is opened yet, none was handed out
     pub opened_none : (f : HostState) → ListenersOpened (IsFresh told endpoint waits faults) sources [] f f []
     opened_none f = record { order = refl; fresh_each = tt; out = record { state = refl; told = tells_same f.listeners (AllOut []) (λ t _. record { out = λ host port. omega arith; back = refl }) } }
 
+    -- one listener more was opened, at the place of its source
     pub opened_then : (done : List ℕ) (place : ℕ) (f g h : HostState) (before after : List (SourceListener L)) → ListenersOpened (IsFresh told endpoint waits faults) sources done f g before
         → ListenerAdded (IsFresh told endpoint waits faults) (end_at sources place) place g h before after → ListenersOpened (IsFresh told endpoint waits faults) sources (done ++ place ∷ []) f h after
     opened_then done place f g h before after opened added =
@@ -116,6 +124,7 @@ module _ {L : Type 0} (told : L → Option LinksTold) (endpoint : L → Option E
     of_opened all [] listen fresh = tt
     of_opened all (l ∷ listeners) listen fresh = (listen 0 l.source (omega arith), from_fresh (end_at sources l.source) all l.listener fresh.0, of_opened all listeners (λ k d below. listen (suc k) d (omega (arith, below))) fresh.1)
 
+    -- listeners come back for the addresses and ports of their sources
     pub ends_opened : (listeners : List (SourceListener L)) → ends_of (come_back told waits faults sources listeners) ≡ map (end_at sources) (map (λ (l : SourceListener L). l.source) listeners)
     ends_opened [] = refl
     ends_opened (l ∷ listeners) = ap (λ (ends : List Endpoint). end_at sources l.source ∷ ends) (ends_opened listeners)
@@ -130,6 +139,7 @@ module _ {L : Type 0} (told : L → Option LinksTold) (endpoint : L → Option E
 
 -- ---- all come back
 
+-- what was handed out is still out after others came back unused
 pub out_unused : (ends others : List Endpoint) (f g h : Option HandedOut) → Tells f g (AllOut ends) → Tells g h (CameUnused others) → AreOut ends h
 out_unused ends others f g None first second = tt
 out_unused ends others None None (Some h) first second = absurd second
@@ -137,9 +147,11 @@ out_unused ends others None (Some g) (Some h) first second = absurd first
 out_unused ends others (Some f) None (Some h) first second = absurd second
 out_unused ends others (Some f) (Some g) (Some h) first second = λ host port. omega (arith, first.out host port, second.out host port)
 
+-- where a listener is refused, those opened before may come back
 pub may_come_back : (ends others : List Endpoint) (refused : NameRefused) (f g h : HostState) → ListenersOut ends f g → ListensRefused refused others g h → AreOut ends h.listeners
 may_come_back ends others refused f g h out back = out_unused ends others f.listeners g.listeners h.listeners out.told back.told
 
+-- what holds of all holds of the first of them
 pub all_take : {A : Type 0} (P : A → Type 0) (i : ℕ) (xs : List A) → All P xs → All P (take i xs)
 all_take P i xs all = λ k d below. subst P (sym (get_or-take i xs k d (omega (arith, below, length-take i xs)))) (all k d (omega (arith, below, length-take i xs)))
 
@@ -148,12 +160,14 @@ pub record Between (ends others : List Endpoint) (old new : HandedOut) : Type 0 
   pub out : (host : List ℕ) (port : ℕ) → new.out host port ≡ old.out host port + count_at host port ends
   pub back : new.back ≡ old.back ++ reverse (map unused others)
 
+-- some are out, and others came back unused after that
 pub between : (ends others : List Endpoint) (t u v : HandedOut) → AllOut ends t u → CameUnused others u v → Between ends others t v
 between ends others t u v first second = record {
   out = λ host port. second.out host port ∙ first.out host port;
   back = second.back ∙ ap (λ (l : List CameBack). l ++ reverse (map unused others)) first.back;
 }
 
+-- when those that are out come back unused too, all have come back unused
 pub whole : (ends others : List Endpoint) (backs : List CameBack) (t v w : HandedOut) → backs ≡ map unused ends → Between ends others t v → AllBack backs v w → CameUnused (ends ++ others) t w
 whole ends others backs t v w is first second =
     let same : ends_of backs ≡ ends = ap ends_of is ∙ ends_unused ends in

@@ -18,6 +18,7 @@ use Rattle.agent_outside.proofs.Dialing.{dials_refused}
 use Rattle.agent_outside.proofs.Ordering.{are_later, are_more, are_paths, backs_more, new_more}
 
 module _ {R A B : Type 0} (rolled : R → Option Rolled) (faults : R → ℕ) (dial : DialTold A) (plans : List SinkPlan) where
+  -- before a sink is opened, the folders are as they were
   pub none_opened : (f : Folders) → SinksOpened {R = R} {A = A} {B = B} rolled faults plans f f []
   none_opened f = record { are = tt; made = tt; out = out_none f }
 

@@ -14,18 +14,21 @@ use Rattle.agent_outside.proofs.Backing.{paths_append}
 
 -- ---- the last of some sinks
 
+-- one sink more is of the kind of its plan
 pub are_more : {R A B : Type 0} (f : Folders) (plans : List SinkPlan) (sinks : List (AgentSink R A B)) (sink : AgentSink R A B) (d : SinkPlan) → length sinks < length plans → AreOfPlans f plans sinks → IsOfKind f (get_or plans (length sinks) d).kind sink
     → AreOfPlans f plans (sinks ++ sink ∷ [])
 are_more f [] sinks sink d below are is = absurd (omega (arith, below))
 are_more f (p ∷ plans) [] sink d below are is = (is, tt)
 are_more f (p ∷ plans) (s ∷ sinks) sink d below are is = (are.0, are_more f plans sinks sink d (omega (arith, below)) are.1 is)
 
+-- one sink more is new
 pub new_more : {R A B : Type 0} (faults : R → ℕ) (plans : List SinkPlan) (sinks : List (AgentSink R A B)) (sink : AgentSink R A B) (d : SinkPlan) → length sinks < length plans → AreNew faults plans sinks → IsNew faults (get_or plans (length sinks) d).kind sink
     → AreNew faults plans (sinks ++ sink ∷ [])
 new_more faults [] sinks sink d below are is = absurd (omega (arith, below))
 new_more faults (p ∷ plans) [] sink d below are is = (is, tt)
 new_more faults (p ∷ plans) (s ∷ sinks) sink d below are is = (are.0, new_more faults plans sinks sink d (omega (arith, below)) are.1 is)
 
+-- the folder of one sink more stands after those of the others
 pub backs_more : {R A B : Type 0} (rolled : R → Option Rolled) (plans : List SinkPlan) (sinks : List (AgentSink R A B)) (sink : AgentSink R A B) (d : SinkPlan) → length sinks < length plans
     → backs_of rolled plans (sinks ++ sink ∷ []) ≡ backs_of rolled plans sinks ++ back_of rolled (get_or plans (length sinks) d).kind sink
 backs_more rolled [] sinks sink d below = absurd (omega (arith, below))
@@ -44,6 +47,7 @@ kind_opened f (plan.Avro host port) (Avro sink) is = tt
 kind_opened f (plan.Plugin name) (Boxed sink) is = tt
 kind_opened f kind sink is = absurd is
 
+-- the folders of sinks that are of their plans were opened
 pub are_opened : {R A B : Type 0} (f : Folders) (plans : List SinkPlan) (sinks : List (AgentSink R A B)) → AreOfPlans f plans sinks → AreOpened f plans (length sinks)
 are_opened f plans [] are = tt
 are_opened f [] (s ∷ sinks) are = absurd are
@@ -70,6 +74,7 @@ one_opened_later f g marks (plan.Roll folder interval) is = marks (string_bytes 
 one_opened_later f g marks (plan.Avro host port) is = tt
 one_opened_later f g marks (plan.Plugin name) is = tt
 
+-- folders that were opened are still so at a later moment
 pub opened_later : (f g : Folders) → ((p : List ℕ) → IsTrue (f.roll_opened p) → IsTrue (g.roll_opened p)) → (plans : List SinkPlan) (many : ℕ) → AreOpened f plans many → AreOpened g plans many
 opened_later f g marks plans zero are = tt
 opened_later f g marks [] (suc many) are = absurd are
@@ -84,6 +89,7 @@ kind_later f g marks (plan.Avro host port) (Avro sink) is = tt
 kind_later f g marks (plan.Plugin name) (Boxed sink) is = tt
 kind_later f g marks kind sink is = absurd is
 
+-- sinks that are of their plans are so at a later moment
 pub are_later : {R A B : Type 0} (f g : Folders) → ((p : List ℕ) → IsTrue (f.roll_opened p) → IsTrue (g.roll_opened p)) → (plans : List SinkPlan) (sinks : List (AgentSink R A B)) → AreOfPlans f plans sinks → AreOfPlans g plans sinks
 are_later f g marks plans [] are = tt
 are_later f g marks [] (s ∷ sinks) are = absurd are
@@ -91,6 +97,7 @@ are_later f g marks (p ∷ plans) (s ∷ sinks) are = (kind_later f g marks p.ki
 
 -- ---- the paths of their folders
 
+-- the folder of a sink has the path of its kind
 pub kind_paths : {R A B : Type 0} (rolled : R → Option Rolled) (f : Folders) (kind : SinkKind) (sink : AgentSink R A B) → IsOfKind f kind sink → paths_of (back_of rolled kind sink) ≡ folder_of kind
 kind_paths rolled f plan.Null (Null sink) is = refl
 kind_paths rolled f (plan.Roll folder interval) (Roll sink) is = refl
@@ -98,6 +105,7 @@ kind_paths rolled f (plan.Avro host port) (Avro sink) is = refl
 kind_paths rolled f (plan.Plugin name) (Boxed sink) is = refl
 kind_paths rolled f kind sink is = absurd is
 
+-- the folders of sinks have the paths of their plans
 pub are_paths : {R A B : Type 0} (rolled : R → Option Rolled) (f : Folders) (plans : List SinkPlan) (sinks : List (AgentSink R A B)) → AreOfPlans f plans sinks → paths_of (backs_of rolled plans sinks) ≡ folders_of (take (length sinks) plans)
 are_paths rolled f plans [] are = refl
 are_paths rolled f [] (s ∷ sinks) are = absurd are

@@ -29,6 +29,7 @@ places_more many (source ∷ sources) start (suc i) d below =
     ∙ sym (append_assoc own rest (replicate (many (get_or sources i d)) ((start + 1) + i)))
     ∙ ap (λ (n : ℕ). (own ++ rest) ++ replicate (many (get_or sources i d)) n) at
 
+-- the places of so many sources, and of one source more
 pub places_next : (many : SourcePlan → ℕ) (sources : List SourcePlan) (i : ℕ) (d : SourcePlan) → i < length sources
     → places_by many 0 (take (i + 1) sources) ≡ places_by many 0 (take i sources) ++ replicate (many (get_or sources i d)) i
 places_next many sources i d below =
@@ -55,5 +56,6 @@ each_listens front (source ∷ sources) =
     (own_listen (has_asks (asks_of_source source)) source.kind (ListensAt all) (length front) (λ listens. listens_after front sources source listens))
     (subst (λ (x : List SourcePlan × ℕ). All (ListensAt x.0) (places x.1 sources)) (λ i. (append_assoc front (source ∷ []) sources i, length-append front (source ∷ []) i)) (each_listens (front ++ source ∷ []) sources))
 
+-- at the place of each listener a source listens
 pub places_listen : (sources : List SourcePlan) → All (ListensAt sources) (places 0 sources)
 places_listen sources = each_listens [] sources

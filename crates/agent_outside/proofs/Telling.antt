@@ -30,5 +30,6 @@ module _ (own_name own_address : Option (List ℕ)) (source : SourcePlan) (names
   one_right (plan.Regex keys line) name address = tt
   one_right (plan.Plugin name' line) name address = tt
 
+  -- each interceptor of a source is told the right name of the host
   pub each_right : All (IsRight own_name own_address names) source.steps.items
   each_right k d below = one_right _ (each_passes (asks false) source.steps.items k d below) (each_passes (asks true) source.steps.items k d below)

@@ -29,6 +29,7 @@ module _ {A : Type 0} (before : A → A → Bool) (one_way : (x y : A) → befor
   earlier None x = Some x
   earlier (Some y) x = if before x y then Some x else Some y
 
+  -- one of them is found that none of the others comes before
   pub found : (y : A) (xs : List A) → Found before y xs (fold earlier (Some y) xs)
   found y [] = record { first = y; is = refl; among = (zero, omega arith, refl); none = (⊎_elim (λ t. one_way y y t) (λ f. f) (cases_Bool (before y y)), tt) }
   found y (x ∷ xs) = ⊎_elim
@@ -100,6 +101,7 @@ first_steps o [] = refl
 first_steps None (f ∷ fs) = first_steps (Some f) fs
 first_steps (Some g) (f ∷ fs) = first_steps (first_of (Some g) f) fs
 
+-- the fault that a walk over all faults keeps is the first
 pub first_is_first : (fs : List Fault) → IsFirst fs (fold first_of None fs)
 first_is_first [] = refl
 first_is_first (f ∷ fs) =
@@ -131,6 +133,7 @@ least_steps o [] = refl
 least_steps None (k ∷ ks) = least_steps (Some k) ks
 least_steps (Some l) (k ∷ ks) = least_steps (least_of (Some l) k) ks
 
+-- the key that a walk over all keys keeps is the least
 pub least_is_least : (ks : List (List ℕ)) → IsLeast ks (fold least_of None ks)
 least_is_least [] = refl
 least_is_least (k ∷ ks) =

@@ -39,9 +39,11 @@ pub record Added (n : ℕ) (channels : List (String Global × Counts)) (members 
   pub rest : fold with_channel members (drop n channels) ≡ channel_members channels
   pub plain : members_have_float members ≡ false
 
+-- before the first channel there are no members
 pub none_added : (channels : List (String Global × Counts)) → Added 0 channels no_members
 none_added channels = record { rest = refl; plain = refl }
 
+-- one channel more is added
 pub one_added : {n : ℕ} {channels : List (String Global × Counts)} {members next : Members} (d : String Global × Counts) → n < length channels → Added n channels members → next ≡ with_channel members (get_or channels n d) → Added (n + 1) channels next
 one_added {n} {channels} {members} {next} d lt before is = record {
   rest =
@@ -51,5 +53,6 @@ one_added {n} {channels} {members} {next} d lt before is = record {
   plain = ap members_have_float is ∙ put_plain _ _ members refl before.plain;
 }
 
+-- after the last channel the members are those of all channels
 pub all_added : {n : ℕ} {channels : List (String Global × Counts)} {members : Members} → length channels ≤ n → Added n channels members → members ≡ channel_members channels
 all_added {n} {channels} {members} past before = sym (ap (λ (l : List (String Global × Counts)). fold with_channel members l) (drop_all n channels past)) ∙ before.rest

@@ -11,6 +11,7 @@ second (w ∷ ws) = get_or w 1 0
 differ : get_or (codes "agent") 1 0 ≡ get_or (codes "check") 1 0 → ⊥
 differ e = omega (arith, e)
 
+-- agent with words that are no options for it is no command
 pub none_agent : (rest : List (List ℕ)) → ((name file : List ℕ) → ¬ AreOptions rest name file) → IsNone (codes "agent" ∷ rest)
 none_agent rest hn = record {
   pipe = λ dir is. cc (is.0);
@@ -19,6 +20,7 @@ none_agent rest hn = record {
   load = λ n dir is. cc (is.1);
 }
 
+-- check with words that are no options for it is no command
 pub none_check : (rest : List (List ℕ)) → ((name file : List ℕ) → ¬ AreOptions rest name file) → IsNone (codes "check" ∷ rest)
 none_check rest hn = record {
   pipe = λ dir is. cc (is.0);

@@ -3,10 +3,12 @@ use Rattle.std.proofs.Common.{zero, suc, ◌≡◌, ◌≤◌, ◌-◌, List, �
 use Rattle.std.specs.declared.alloc.Global.{Global}
 use Rattle.std.proofs.lemmas.List.{take_all}
 
+-- where there is a word, the first one and those behind it are all
 pub front_one : (ws : List (String Global)) (a : String Global) → 1 ≤ length ws → a ≡ get_or ws 0 a → ws ≡ a ∷ drop 1 ws
 front_one [] a low p = absurd (omega arith)
 front_one (x ∷ ws) a low p = ap (λ (y : String Global). y ∷ ws) (sym p)
 
+-- where there are two words, those and the words behind them are all
 pub front_two : (ws : List (String Global)) (a b : String Global) → 2 ≤ length ws → a ≡ get_or ws 0 a → b ≡ get_or ws 1 b → ws ≡ a ∷ b ∷ drop 2 ws
 front_two [] a b low p q = absurd (omega arith)
 front_two (x ∷ []) a b low p q = absurd (omega arith)

@@ -120,6 +120,7 @@ name_fits named filed name file w v rest is g = of g.givens g.words_are g.each g
         let none = free named (names gs) n_here in
         (subst IsName same a.0.1, none, record { givens = gs; words_are = cc; each = a.1; one_name = subst (λ (h : List (List ℕ)). h ++ (v ∷ names gs) ≡ name ∷ []) none n_here; one_file = f })
 
+-- a first name is taken, and the words behind it complete what was given
 pub name_goes : (filed : List (List ℕ)) (name file w v : List ℕ) (rest : List (List ℕ)) → flag_of w ≡ Some flags.Name → IsName v → GoOn [] filed (w ∷ v ∷ rest) name file ↔ GoOn (v ∷ []) filed rest name file
 name_goes filed name file w v rest is named = (λ g. (name_fits [] filed name file w v rest is g).2, λ g. record { givens = Name w v ∷ g.givens; words_are = ap (λ (ws : List (List ℕ)). w ∷ v ∷ ws) g.words_are; each = ((is, named), g.each); one_name = g.one_name; one_file = g.one_file })
 
@@ -146,13 +147,16 @@ file_fits named filed name file w v rest is g = of g.givens g.words_are g.each g
         let none = free filed (files gs) f_here in
         (subst IsName same a.0.1, none, record { givens = gs; words_are = cc; each = a.1; one_name = n; one_file = subst (λ (h : List (List ℕ)). h ++ (v ∷ files gs) ≡ file ∷ []) none f_here })
 
+-- a first file is taken, and the words behind it complete what was given
 pub file_goes : (named : List (List ℕ)) (name file w v : List ℕ) (rest : List (List ℕ)) → flag_of w ≡ Some flags.File → IsName v → GoOn named [] (w ∷ v ∷ rest) name file ↔ GoOn named (v ∷ []) rest name file
 file_goes named name file w v rest is filed = (λ g. (file_fits named [] name file w v rest is g).2, λ g. record { givens = File w v ∷ g.givens; words_are = ap (λ (ws : List (List ℕ)). w ∷ v ∷ ws) g.words_are; each = ((is, filed), g.each); one_name = g.one_name; one_file = g.one_file })
 
+-- where nothing was given so far, nothing is held
 pub free_held : (n : Option (Bor (List ℕ))) → is_some n ≡ false → held n ≡ []
 free_held None e = refl
 free_held (Some b) e = absurd (cc)
 
+-- where something was given, it is held
 pub taken_held : (n : Option (Bor (List ℕ))) → is_some n ≡ true → held n ≡ [] → ⊥
 taken_held None e h = cc
 taken_held (Some b) e h = cc

@@ -46,6 +46,7 @@ same_options words others name file name' file' same a b =
     let two : file ∷ [] ≡ file' ∷ [] = sym a.one_file ∙ ap files givens ∙ b.one_file in
     (cc one, cc two)
 
+-- words that name an agent and a file name one of each
 pub one_asked : OneAsked
 one_asked words first name file name' file' a b =
     let same : a.0 ≡ b.0 = cc (sym a.1 ∙ b.1) in

@@ -27,6 +27,7 @@ fold_more : (entries : List Header) (entry : Header) (start : List Header) → f
 fold_more [] entry start = refl
 fold_more (e ∷ entries) entry start = fold_more entries entry (with_header start e.0 e.1)
 
+-- an entry after the others is put into their headers
 pub headers_more : (entries : List Header) (entry : Header) → headers_of (entries ++ entry ∷ []) ≡ with_header (headers_of entries) entry.0 entry.1
 headers_more entries entry = fold_more entries entry []
 
@@ -49,6 +50,7 @@ none_stays : (events more : List Content) → first_large events ≡ None → fi
 none_stays [] more e = refl
 none_stays (x ∷ events) more e = none_choice (ltb max_size (size x)) (size x) (first_large events) (first_large (events ++ more)) (first_large more) e (λ h. none_stays events more h)
 
+-- once an event was too large, a further one changes nothing
 pub keep_nothing : (events batch : List Content) (large : Option ℕ) (event : Content) → is_some large ≡ true → Collects events batch large → Collects (events ++ event ∷ []) batch large
 keep_nothing events batch None event some c = absurd cc
 keep_nothing events batch (Some n) event some c = record {
@@ -62,6 +64,7 @@ small_event event small = ap (λ (b : Bool). choice b (size event) None) (le-ltb
 large_event : (event : Content) → max_size < size event → first_large (event ∷ []) ≡ Some (size event)
 large_event event large = ap (λ (b : Bool). choice b (size event) None) (lt-ltb max_size (size event) large)
 
+-- an event that isn't too large joins those so far
 pub keep_event : (events batch after : List Content) (large : Option ℕ) (found event : Content) → is_some large ≡ false → Collects events batch large → found ≡ event → size event ≤ max_size → after ≡ batch ++ found ∷ [] → Collects (events ++ event ∷ []) after large
 keep_event events batch after None found event some c e small a = record {
   large_is = sym (none_stays events (event ∷ []) (sym c.large_is) ∙ small_event event small);
@@ -69,6 +72,7 @@ keep_event events batch after None found event some c e small a = record {
 }
 keep_event events batch after (Some n) found event some c e small a = absurd cc
 
+-- the first event that is too large is known by its size
 pub keep_large : (events batch : List Content) (large : Option ℕ) (event : Content) (n : ℕ) → is_some large ≡ false → Collects events batch large → n ≡ size event → max_size < n → Collects (events ++ event ∷ []) batch (Some n)
 keep_large events batch None event n some c e large = record {
   large_is = sym (none_stays events (event ∷ []) (sym c.large_is) ∙ large_event event (subst (λ (k : ℕ). max_size < k) e large) ∙ ap Some (sym e));
@@ -98,21 +102,26 @@ event_of bytes at mid start end headers body entries p q m h b e = record {
   body = subst (λ (x : List ℕ). IsBytes (part bytes mid end) x) (sym e) b;
 }
 
+-- a fault of the body behind the headers is one of the event
 pub body_fault : (bytes : List ℕ) (at mid : ℕ) (entries : List (List ℕ × List ℕ)) (e : ValueRefused) → IsPart bytes at mid → IsMap (part bytes at mid) entries → IsFault BytesFault bytes mid e → IsRefusal EventFault bytes at e
 body_fault bytes at mid entries e p m f = refusal_of EventFault bytes at e (moved BytesFault EventFault bytes at mid e p (λ rest g h. inr (behind IsMap BytesFault (part bytes at mid) entries m rest g h)) f)
 
+-- a refusal of the headers is one of the event
 pub map_fault : (bytes : List ℕ) (at : ℕ) (e : ValueRefused) → IsRefusal MapFault bytes at e → IsRefusal EventFault bytes at e
 map_fault bytes at e f = same_place_refusal MapFault EventFault bytes at e (λ g h. inl h) f
 
+-- before the first event the batch is empty and nothing was too large
 pub nothing_yet : (batch : List Content) → batch ≡ [] → Collects [] batch None
 nothing_yet batch e = record { large_is = refl; all = λ h. e }
 
+-- a refusal of the items is what the reader of a batch answers, out of memory too
 pub batch_refusal : (bytes : List ℕ) (at : ℕ) (e : ValueRefused) → IsRefusal BatchFault bytes at e → ReadsBatch bytes at (Err e)
 batch_refusal bytes at (Short field need) f = f
 batch_refusal bytes at (Bad place) f = f
 batch_refusal bytes at (TooLarge n end) f = absurd f
 batch_refusal bytes at NoMemory f = tt
 
+-- a fault of the items is what the reader of a batch answers
 pub batch_fault : (bytes : List ℕ) (at : ℕ) (e : ValueRefused) → IsFault BatchFault bytes at e → ReadsBatch bytes at (Err e)
 batch_fault bytes at e f = batch_refusal bytes at e (refusal_of BatchFault bytes at e f)
 
@@ -138,6 +147,7 @@ some_event bytes item end event p i =
 
 -- ---- no event is too large
 
+-- where all events are small there is no first large one
 pub none_large : (events : List Content) → AreSmall events → first_large events ≡ None
 none_large [] small = refl
 none_large (e ∷ events) small = ap (λ (b : Bool). choice b (size e) (first_large events)) (le-ltb max_size (size e) small.0) ∙ none_large events small.1
@@ -150,6 +160,7 @@ rest_none : (b : Bool) (n : ℕ) (rest : Option ℕ) → choice b n rest ≡ Non
 rest_none true n rest e = absurd cc
 rest_none false n rest e = e
 
+-- where there is no first large event all are small
 pub small_events : (events : List Content) → first_large events ≡ None → AreSmall events
 small_events [] none = tt
 small_events (e ∷ events) none =

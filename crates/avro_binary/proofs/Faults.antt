@@ -24,12 +24,14 @@ moved_bad Inner Outer bytes at mid field p moves f =
     let front = p.0 in
     (length (part bytes at mid) + f.0, omega (arith, f.1), subst (λ (x : List ℕ). Outer x (Wrong (length (part bytes at mid) + f.0))) (sym (rest_part bytes at mid p)) (moves (drop mid bytes) (Wrong f.0) f.2))
 
+-- a fault of a part is one of the whole, counted from where the whole begins
 pub moved : (Inner Outer : List ℕ → Fault → Type 0) (bytes : List ℕ) (at mid : ℕ) (e : ValueRefused) → IsPart bytes at mid → Moves Inner Outer (part bytes at mid) → IsFault Inner bytes mid e → IsFault Outer bytes at e
 moved Inner Outer bytes at mid (Short field need) p moves f = moved_short Inner Outer bytes at mid field need p moves f
 moved Inner Outer bytes at mid (Bad place) p moves f = moved_bad Inner Outer bytes at mid place p moves f
 moved Inner Outer bytes at mid (TooLarge n end) p moves f = absurd f
 moved Inner Outer bytes at mid NoMemory p moves f = absurd f
 
+-- a refusal of a part is one of the whole, out of memory too
 pub moved_refusal : (Inner Outer : List ℕ → Fault → Type 0) (bytes : List ℕ) (at mid : ℕ) (e : ValueRefused) → IsPart bytes at mid → Moves Inner Outer (part bytes at mid) → IsRefusal Inner bytes mid e → IsRefusal Outer bytes at e
 moved_refusal Inner Outer bytes at mid (Short field need) p moves f = moved_short Inner Outer bytes at mid field need p moves f
 moved_refusal Inner Outer bytes at mid (Bad place) p moves f = moved_bad Inner Outer bytes at mid place p moves f
@@ -50,6 +52,7 @@ same_place Inner Outer bytes at (Bad place) widens f = (f.0, f.1, widens (Wrong 
 same_place Inner Outer bytes at (TooLarge n end) widens f = absurd f
 same_place Inner Outer bytes at NoMemory widens f = absurd f
 
+-- a refusal of the first field is one of the whole
 pub same_place_refusal : (Inner Outer : List ℕ → Fault → Type 0) (bytes : List ℕ) (at : ℕ) (e : ValueRefused) → ((f : Fault) → Inner (drop at bytes) f → Outer (drop at bytes) f) → IsRefusal Inner bytes at e → IsRefusal Outer bytes at e
 same_place_refusal Inner Outer bytes at (Short field need) widens f = (f.0, f.1, f.2, f.3, widens (Lacks f.0 f.1) f.4)
 same_place_refusal Inner Outer bytes at (Bad place) widens f = (f.0, f.1, widens (Wrong f.0) f.2)

@@ -3,12 +3,14 @@ use Rattle.std.proofs.Common.{◌≡◌, ℕ, ◌+◌, ◌-◌, List, ◌++◌, 
 use Rattle.std.proofs.lemmas.List.{take_at, drop_at, take-append-drop, take-take, drop-take, drop-drop, length-take, length-drop}
 use Rattle.avro_binary.specs.Reading.{part, IsPart}
 
+-- two lists that are joined alike, with fronts of one length, have the same front and rest
 pub same_front : (a b x y : List ℕ) → length a ≡ length b → a ++ x ≡ b ++ y → (a ≡ b) × (x ≡ y)
 same_front a b x y len e = (
   sym (take_at a x (length a) refl) ∙ ap (take (length a)) e ∙ take_at b y (length a) (sym len),
   sym (drop_at a x (length a) refl) ∙ ap (drop (length a)) e ∙ drop_at b y (length a) (sym len),
 )
 
+-- a part is as long as its offsets are apart
 pub length-part : (bytes : List ℕ) (at end : ℕ) → IsPart bytes at end → length (part bytes at end) ≡ end - at
 length-part bytes at end p = let l = p.0 in let r = p.1 in omega (arith, length-take (end - at) (drop at bytes), length-drop at bytes)
 

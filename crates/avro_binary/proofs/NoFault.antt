@@ -12,6 +12,7 @@ use Rattle.avro_binary.specs.Laws.{IsPrefixFree, ExcludesFaults}
 use Rattle.avro_binary.proofs.Lists.{same_front}
 use Rattle.avro_binary.proofs.PrefixFree.{same_head, same_groups, same_long, same_natural, same_count, same_text, same_entry, same_bytes, same_map, same_event, rest_same}
 
+-- where a number is spelled, some byte is its last
 pub never_goes_on : (front rest : List ℕ) (n : ℕ) → IsGroups front n → AllGoOn (front ++ rest) → ⊥
 never_goes_on [] rest n g h = g
 never_goes_on (b ∷ []) rest n g h = omega (arith, g.0, h.0)
@@ -33,9 +34,11 @@ number_whole most max front rest n f p (TooWide other more k whole groups short 
     let fits = p.fits in
     omega (arith, s.1)
 
+-- where an int is spelled there is no fault
 pub int_whole : ExcludesFaults IsInt IntFault
 int_whole front rest z f p h = number_whole 5 0xffff_ffff front rest (zigzag z) f p h
 
+-- where a long is spelled there is no fault
 pub long_whole : ExcludesFaults IsLong LongFault
 long_whole front rest z f p h = number_whole 10 0xffff_ffff_ffff_ffff front rest (zigzag z) f p h
 
@@ -43,6 +46,7 @@ boolean_fault : (b : ℕ) (rest : List ℕ) (f : Fault) → b < 2 → BooleanFau
 boolean_fault b rest f small (NoByte none e) = absurd cc
 boolean_fault b rest f small (OtherByte c more whole large e) = omega (arith, (same_head b c rest more whole).0)
 
+-- where a boolean is spelled there is no fault
 pub boolean_whole : ExcludesFaults IsBoolean BooleanFault
 boolean_whole front rest true f p h = boolean_fault 1 rest f (omega arith) (subst (λ (t : List ℕ). BooleanFault (t ++ rest) f) p h)
 boolean_whole front rest false f p h = boolean_fault 0 rest f (omega arith) (subst (λ (t : List ℕ). BooleanFault (t ++ rest) f) p h)
@@ -51,9 +55,11 @@ boolean_whole front rest false f p h = boolean_fault 0 rest f (omega arith) (sub
 parts : (a b w x : List ℕ) → w ≡ a ++ b → w ++ x ≡ a ++ (b ++ x)
 parts a b w x e = ap (λ (t : List ℕ). t ++ x) e ∙ append_assoc a b x
 
+-- bytes that begin with a long have no fault of a long
 pub long_at : (front : List ℕ) (rest : List ℕ) (z : ℤ) (bytes : List ℕ) (f : Fault) → IsLong front z → bytes ≡ front ++ rest → LongFault bytes f → ⊥
 long_at front rest z bytes f p e h = long_whole front rest z f p (subst (λ (t : List ℕ). LongFault t f) e h)
 
+-- where bytes are spelled there is no fault
 pub bytes_whole : ExcludesFaults IsBytes BytesFault
 bytes_whole front rest v f p (InLength h) = long_at p.front (v ++ rest) (pos (length v)) (front ++ rest) f p.counted (parts p.front v front rest p.whole) h
 bytes_whole front rest v f p (Negative other more n whole long e) =
@@ -65,6 +71,7 @@ bytes_whole front rest v f p (Cut other more n whole long short e) =
     let r = rest_same p.front other (v ++ rest) more s.0 g in
     omega (arith, same_natural (length v) n s.1, ap length r, length-append v rest)
 
+-- where a text is spelled there is no fault
 pub text_whole : ExcludesFaults IsText TextFault
 text_whole front rest v f p (InBytes h) = bytes_whole front rest v f p.counted h
 text_whole front rest v f p (NotUtf8 other content more whole long not_utf8 e) =
@@ -74,9 +81,11 @@ text_whole front rest v f p (NotUtf8 other content more whole long not_utf8 e) =
     let r = same_front v content rest more (same_natural (length v) (length content) s.1) (rest_same c.front other (v ++ rest) (content ++ more) s.0 g) in
     not_utf8 (subst IsUtf8 r.0 p.utf8)
 
+-- where 16 fixed bytes are spelled there is no fault
 pub fixed_whole : ExcludesFaults IsFixed FixedFault
 fixed_whole front rest v f p h = omega (arith, h.0, length-append front rest, ap length p.0, p.1)
 
+-- where a block's count is spelled there is no fault
 pub count_whole : (front rest : List ℕ) (n : ℕ) (f : Fault) → IsCount front n → CountFault (front ++ rest) f → ⊥
 count_whole front rest n f (Plain p) (InCount h) = long_whole front rest (pos n) f p h
 count_whole front rest n f (Plain p) (InSize other more k inner whole long h e) =
@@ -89,6 +98,7 @@ count_whole front rest n f (Sized first back k size whole p q e) (InSize other m
     let r = rest_same first other (back ++ rest) more s.0 g in
     long_at back rest size more inner q (sym r) h
 
+-- where items are spelled there is no fault, if there is none in each item
 pub items_whole : {V : Type 0} (Item : List ℕ → V → Type 0) (Faults : List ℕ → Fault → Type 0) → IsPrefixFree Item → ExcludesFaults Item Faults → (j k : ℕ) (front rest bytes : List ℕ) (v : List V) (f : Fault) → j ≡ k → bytes ≡ front ++ rest → IsItems Item j front v → ItemsFault Item Faults k bytes f → ⊥
 items_whole {V} Item Faults free whole_item j k front rest bytes v f jk at (Next left all first more value values whole i others) (AtItem left' all' g h) =
     whole_item first (more ++ rest) value f i (subst (λ (t : List ℕ). Faults t f) (at ∙ parts first more front rest whole) h)
@@ -121,19 +131,24 @@ behind_whole First Second Faults a b front rest v w f free whole_second whole p 
     let s = free a h.front (b ++ rest) h.rest v h.value p h.spelled g in
     whole_second b rest w h.inner q (subst (λ (t : List ℕ). Faults t h.inner) (sym (rest_same a h.front (b ++ rest) h.rest s.0 g)) h.fault)
 
+-- where a key and its value are spelled there is no fault
 pub entry_whole : (Spells : List ℕ → List ℕ → Type 0) (Faults : List ℕ → Fault → Type 0) → ExcludesFaults Spells Faults → ExcludesFaults (IsEntry Spells) (EntryFault Faults)
 entry_whole Spells Faults whole_value front rest v f p (inl h) = text_whole p.front (p.back ++ rest) v.0 f p.key (subst (λ (t : List ℕ). TextFault t f) (parts p.front p.back front rest p.whole) h)
 entry_whole Spells Faults whole_value front rest v f p (inr h) = behind_whole IsText Spells Faults p.front p.back front rest v.0 v.1 f same_text whole_value p.whole p.key p.value h
 
+-- where a map of bytes is spelled there is no fault
 pub meta_whole : ExcludesFaults IsMeta MetaFault
 meta_whole front rest v f p h = items_whole (IsEntry IsBytes) (EntryFault BytesFault) (same_entry IsBytes same_bytes) (entry_whole IsBytes BytesFault bytes_whole) 0 0 front rest (front ++ rest) v f refl refl p h
 
+-- where a map of texts is spelled there is no fault
 pub map_whole : ExcludesFaults IsMap MapFault
 map_whole front rest v f p h = items_whole (IsEntry IsText) (EntryFault TextFault) (same_entry IsText same_text) (entry_whole IsText TextFault text_whole) 0 0 front rest (front ++ rest) v f refl refl p h
 
+-- where an event is spelled there is no fault
 pub event_whole : ExcludesFaults IsEvent EventFault
 event_whole front rest v f p (inl h) = map_whole p.front (p.back ++ rest) p.entries f p.map (subst (λ (t : List ℕ). MapFault t f) (parts p.front p.back front rest p.whole) h)
 event_whole front rest v f p (inr h) = behind_whole IsMap IsBytes BytesFault p.front p.back front rest p.entries v.body f same_map bytes_whole p.whole p.map p.body h
 
+-- where a batch is spelled there is no fault
 pub batch_whole : ExcludesFaults IsBatch BatchFault
 batch_whole front rest v f p h = items_whole IsEvent EventFault same_event event_whole 0 0 front rest (front ++ rest) v f refl refl p h

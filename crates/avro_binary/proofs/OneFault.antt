@@ -19,6 +19,7 @@ goes_on_short most bytes front rest short whole len = absurd (omega (arith, ap l
 goes_on_ended : {A : Type 0} (bytes front rest : List ℕ) (n : ℕ) → AllGoOn bytes → bytes ≡ front ++ rest → IsGroups front n → A
 goes_on_ended bytes front rest n all whole groups = absurd (never_goes_on front rest n groups (subst (λ (t : List ℕ). AllGoOn t) whole all))
 
+-- a number of any width is at fault at one place
 pub one_number : (most max : ℕ) → HasOneFault (NumberFault most max)
 one_number most max bytes f g (GoesOn all short e) (GoesOn all' short' e') = e ∙ sym e'
 one_number most max bytes f g (GoesOn all short e) (TooLong front rest whole all' len e') = goes_on_short most bytes front rest short whole len
@@ -30,14 +31,17 @@ one_number most max bytes f g (TooWide front rest n whole groups len large e) (G
 one_number most max bytes f g (TooWide front rest n whole groups len large e) (TooLong front' rest' whole' all' len' e') = e ∙ sym e'
 one_number most max bytes f g (TooWide front rest n whole groups len large e) (TooWide front' rest' n' whole' groups' len' large' e') = e ∙ sym e'
 
+-- an int is at fault at one place
 pub one_int : HasOneFault IntFault
 one_int bytes f g h k = one_number 5 max_int bytes f g h k
 
+-- a long is at fault at one place
 pub one_long : HasOneFault LongFault
 one_long bytes f g h k = one_number 10 max_long bytes f g h k
 
 -- ---- values of one or two fields
 
+-- a boolean is at fault at one place
 pub one_boolean : HasOneFault BooleanFault
 one_boolean bytes f g (NoByte none e) (NoByte none' e') = e ∙ sym e'
 one_boolean bytes f g (NoByte none e) (OtherByte b rest whole large e') = absurd (let h = sym none ∙ whole in cc)
@@ -49,6 +53,7 @@ negative_cut bytes a b x y m n p q long long' =
     let s = same_long a b x y (negsuc m) (pos n) long long' (sym p ∙ q) in
     absurd (let h = s.1 in cc)
 
+-- bytes after their length are at fault at one place
 pub one_bytes : HasOneFault BytesFault
 one_bytes bytes f g (InLength h) (InLength k) = one_long bytes f g h k
 one_bytes bytes f g (InLength h) (Negative front rest n whole long e) = absurd (long_at front rest (negsuc n) bytes f long whole h)
@@ -68,6 +73,7 @@ bytes_no_text : {A : Type 0} (bytes front content rest : List ℕ) (f : Fault) �
 bytes_no_text bytes front content rest f h whole long =
     absurd (bytes_whole (front ++ content) rest content f (record { front = front; whole = refl; counted = long }) (subst (λ (t : List ℕ). BytesFault t f) (whole ∙ sym (append_assoc front content rest)) h))
 
+-- a text is at fault at one place
 pub one_text : HasOneFault TextFault
 one_text bytes f g (InBytes h) (InBytes k) = one_bytes bytes f g h k
 one_text bytes f g (InBytes h) (NotUtf8 front content rest whole long other e) = bytes_no_text bytes front content rest f h whole long
@@ -76,6 +82,7 @@ one_text bytes f g (NotUtf8 front content rest whole long other e) (NotUtf8 fron
     let s = same_long front front' (content ++ rest) (content' ++ rest') (pos (length content)) (pos (length content')) long long' (sym whole ∙ whole') in
     e ∙ ap (λ (t : List ℕ). Wrong (length t)) s.0 ∙ sym e'
 
+-- a fixed value is at fault at one place
 pub one_fixed : HasOneFault FixedFault
 one_fixed bytes f g h k = h.1 ∙ sym k.1
 
@@ -85,6 +92,7 @@ one_fixed bytes f g h k = h.1 ∙ sym k.1
 pub same_shift : (a b : List ℕ) (i j f g : Fault) → a ≡ b → i ≡ j → f ≡ shift (length a) i → g ≡ shift (length b) j → f ≡ g
 same_shift a b i j f g p q e e' = e ∙ ap (λ (t : List ℕ). shift (length t) i) p ∙ ap (λ (k : Fault). shift (length b) k) q ∙ sym e'
 
+-- two fields, one after the other, are at fault at one place, if each is
 pub one_of_pair : {V : Type 0} (First : List ℕ → V → Type 0) (FirstFault SecondFault : List ℕ → Fault → Type 0) → IsPrefixFree First → ExcludesFaults First FirstFault → HasOneFault FirstFault → HasOneFault SecondFault → (bytes : List ℕ) (f g : Fault) → FirstFault bytes f ⊎ Behind First SecondFault bytes f → FirstFault bytes g ⊎ Behind First SecondFault bytes g → f ≡ g
 one_of_pair First FirstFault SecondFault free whole one other bytes f g (inl h) (inl k) = one bytes f g h k
 one_of_pair First FirstFault SecondFault free whole one other bytes f g (inl h) (inr k) = absurd (whole k.front k.rest k.value f k.spelled (subst (λ (t : List ℕ). FirstFault t f) k.whole h))
@@ -97,6 +105,7 @@ one_of_pair First FirstFault SecondFault free whole one other bytes f g (inr h) 
 
 -- ---- items
 
+-- a block's count is at fault at one place
 pub one_count : HasOneFault CountFault
 one_count bytes f g (InCount h) (InCount k) = one_long bytes f g h k
 one_count bytes f g (InCount h) (InSize front rest k inner whole long i e) = absurd (long_at front rest (negsuc k) bytes f long whole h)
@@ -140,14 +149,17 @@ one_items {V} Item Faults free whole_item one j k bytes other f g jk at (AfterCo
 one_entry : (Spells : List ℕ → List ℕ → Type 0) (Faults : List ℕ → Fault → Type 0) → HasOneFault Faults → HasOneFault (EntryFault Faults)
 one_entry Spells Faults one bytes f g h k = one_of_pair IsText TextFault Faults same_text text_whole one_text one bytes f g h k
 
+-- a map of bytes is at fault at one place
 pub one_meta : HasOneFault MetaFault
 one_meta bytes f g h k = one_items (IsEntry IsBytes) (EntryFault BytesFault) (same_entry IsBytes same_bytes) (entry_whole IsBytes BytesFault bytes_whole) (one_entry IsBytes BytesFault one_bytes) 0 0 bytes bytes f g refl refl h k
 
 one_map : HasOneFault MapFault
 one_map bytes f g h k = one_items (IsEntry IsText) (EntryFault TextFault) (same_entry IsText same_text) (entry_whole IsText TextFault text_whole) (one_entry IsText TextFault one_text) 0 0 bytes bytes f g refl refl h k
 
+-- an event is at fault at one place
 pub one_event : HasOneFault EventFault
 one_event bytes f g h k = one_of_pair IsMap MapFault BytesFault same_map map_whole one_map one_bytes bytes f g h k
 
+-- a batch is at fault at one place
 pub one_batch : HasOneFault BatchFault
 one_batch bytes f g h k = one_items IsEvent EventFault same_event event_whole one_event 0 0 bytes bytes f g refl refl h k

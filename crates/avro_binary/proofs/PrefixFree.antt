@@ -10,9 +10,11 @@ use Rattle.event_core.specs.Content.{Content, Header, content}
 use Rattle.avro_binary.specs.Laws.{IsPrefixFree}
 use Rattle.avro_binary.proofs.Lists.{same_front}
 
+-- two lists that are equal begin with the same byte and go on alike
 pub same_head : (b c : ℕ) (x y : List ℕ) → (b ∷ x) ≡ (c ∷ y) → (b ≡ c) × (x ≡ y)
 same_head b c x y e = (cc, cc)
 
+-- groups that begin the same bytes are the same and stand for one number
 pub same_groups : (a b x y : List ℕ) (m n : ℕ) → IsGroups a m → IsGroups b n → a ++ x ≡ b ++ y → (a ≡ b) × (m ≡ n)
 same_groups [] b x y m n g h e = absurd g
 same_groups (i ∷ a) [] x y m n g h e = absurd h
@@ -33,29 +35,35 @@ same_groups (i ∷ j ∷ a) (k ∷ l ∷ b) x y m n g h e =
     let q = r.0 in
     (cc, omega (arith, s.0, r.1, g.3, h.3))
 
+-- zigzag gives different numbers different codes
 pub same_sign : (y z : ℤ) → zigzag y ≡ zigzag z → y ≡ z
 same_sign (pos m) (pos n) e = ap pos (omega (arith, e))
 same_sign (pos m) (negsuc n) e = absurd (omega (arith, e))
 same_sign (negsuc m) (pos n) e = absurd (omega (arith, e))
 same_sign (negsuc m) (negsuc n) e = ap negsuc (omega (arith, e))
 
+-- no spelling of a signed number begins another, whatever its width
 pub same_number : (most max : ℕ) → IsPrefixFree (λ (bytes : List ℕ) (z : ℤ). IsNumber most max bytes (zigzag z))
 same_number most max a b x y v w g h e =
     let s = same_groups a b x y (zigzag v) (zigzag w) g.groups h.groups e in
     (s.0, same_sign v w s.1)
 
+-- no int begins another
 pub same_int : IsPrefixFree IsInt
 same_int = same_number 5 0xffff_ffff
 
+-- no long begins another
 pub same_long : IsPrefixFree IsLong
 same_long = same_number 10 0xffff_ffff_ffff_ffff
 
+-- numbers that are equal as integers are equal
 pub same_natural : (m n : ℕ) → pos m ≡ pos n → m ≡ n
 same_natural m n e = cc
 
 same_negative : (m n : ℕ) → negsuc m ≡ negsuc n → m ≡ n
 same_negative m n e = cc
 
+-- no boolean begins another
 pub same_boolean : IsPrefixFree IsBoolean
 same_boolean a b x y true true p q e = (p ∙ sym q, refl)
 same_boolean a b x y false false p q e = (p ∙ sym q, refl)
@@ -70,12 +78,14 @@ same_boolean a b x y false true p q e =
 pub regroup : (a b x c d y w z : List ℕ) → w ≡ a ++ b → z ≡ c ++ d → w ++ x ≡ z ++ y → a ++ (b ++ x) ≡ c ++ (d ++ y)
 regroup a b x c d y w z p q e = sym (append_assoc a b x) ∙ ap (λ (t : List ℕ). t ++ x) (sym p) ∙ e ∙ ap (λ (t : List ℕ). t ++ y) q ∙ append_assoc c d y
 
+-- what follows the same front in the same bytes is the same
 pub rest_same : (a c s t : List ℕ) → a ≡ c → a ++ s ≡ c ++ t → s ≡ t
 rest_same a c s t p e = append_cancel_left c s t (ap (λ (u : List ℕ). u ++ s) (sym p) ∙ e)
 
 whole_same : (a b c d w z : List ℕ) → w ≡ a ++ b → z ≡ c ++ d → a ≡ c → b ≡ d → w ≡ z
 whole_same a b c d w z p q e f = cc
 
+-- no bytes with their length begin others
 pub same_bytes : IsPrefixFree IsBytes
 same_bytes a b x y v w p q e =
     let f = regroup p.front v x q.front w y a b p.whole q.whole e in
@@ -83,14 +93,17 @@ same_bytes a b x y v w p q e =
     let r = same_front v w x y (same_natural (length v) (length w) s.1) (rest_same p.front q.front (v ++ x) (w ++ y) s.0 f) in
     (whole_same p.front v q.front w a b p.whole q.whole s.0 r.0, r.0)
 
+-- no text begins another
 pub same_text : IsPrefixFree IsText
 same_text a b x y v w p q e = same_bytes a b x y v w p.counted q.counted e
 
+-- no fixed value begins another
 pub same_fixed : IsPrefixFree IsFixed
 same_fixed a b x y v w p q e =
     let s = same_front a b x y (ap length p.0 ∙ p.1 ∙ sym q.1 ∙ sym (ap length q.0)) e in
     (s.0, sym p.0 ∙ s.0 ∙ q.0)
 
+-- two counts at the front of the same bytes are one
 pub same_count : (a b x y : List ℕ) (m n : ℕ) → IsCount a m → IsCount b n → a ++ x ≡ b ++ y → (a ≡ b) × (m ≡ n)
 same_count a b x y m n (Plain p) (Plain q) e =
     let s = same_long a b x y (pos m) (pos n) p q e in
@@ -109,9 +122,11 @@ same_count a b x y m n (Sized front back k size whole first second e2) (Sized fr
     let r = same_long back back' x y size size' second second' (rest_same front front' (back ++ x) (back' ++ y) s.0 f) in
     (whole_same front back front' back' a b whole whole' s.0 r.0, e2 ∙ ap suc (same_negative k k' s.1) ∙ sym e2')
 
+-- no block's count begins another
 pub same_counts : IsPrefixFree IsCount
 same_counts a b x y m n p q e = same_count a b x y m n p q e
 
+-- no run of items begins another, if no item does
 pub same_items : {V : Type 0} (Item : List ℕ → V → Type 0) → IsPrefixFree Item → (j k : ℕ) (a b x y : List ℕ) (v w : List V) → j ≡ k → IsItems Item j a v → IsItems Item k b w → a ++ x ≡ b ++ y → (a ≡ b) × (v ≡ w)
 same_items {V} Item free j k a b x y v w jk (Next left all front rest value values whole i more) (Next left' all' front' rest' value' values' whole' i' more') e =
     let f = regroup front rest x front' rest' y a b whole whole' e in
@@ -147,6 +162,7 @@ pair_of key value = (key, value)
 same_pair : (p q : List ℕ × List ℕ) → p.0 ≡ q.0 → p.1 ≡ q.1 → p ≡ q
 same_pair p q a b = ap (λ (k : List ℕ). pair_of k p.1) a ∙ ap (λ (v : List ℕ). pair_of q.0 v) b
 
+-- no entry begins another, if no value of its kind does
 pub same_entry : (Spells : List ℕ → List ℕ → Type 0) → IsPrefixFree Spells → IsPrefixFree (IsEntry Spells)
 same_entry Spells free a b x y v w p q e =
     let f = regroup p.front p.back x q.front q.back y a b p.whole q.whole e in
@@ -154,15 +170,18 @@ same_entry Spells free a b x y v w p q e =
     let r = free p.back q.back x y v.1 w.1 p.value q.value (rest_same p.front q.front (p.back ++ x) (q.back ++ y) s.0 f) in
     (whole_same p.front p.back q.front q.back a b p.whole q.whole s.0 r.0, same_pair v w s.1 r.1)
 
+-- no map of bytes begins another
 pub same_meta : IsPrefixFree IsMeta
 same_meta a b x y v w p q e = same_items (IsEntry IsBytes) (same_entry IsBytes same_bytes) 0 0 a b x y v w refl p q e
 
+-- no map of texts begins another
 pub same_map : IsPrefixFree IsMap
 same_map a b x y v w p q e = same_items (IsEntry IsText) (same_entry IsText same_text) 0 0 a b x y v w refl p q e
 
 same_content : (v w : Content) → v.headers ≡ w.headers → v.body ≡ w.body → v ≡ w
 same_content v w p q = ap (λ (h : List Header). content h v.body) p ∙ ap (λ (b : List ℕ). content w.headers b) q
 
+-- no event begins another
 pub same_event : IsPrefixFree IsEvent
 same_event a b x y v w p q e =
     let f = regroup p.front p.back x q.front q.back y a b p.whole q.whole e in
@@ -170,5 +189,6 @@ same_event a b x y v w p q e =
     let r = same_bytes p.back q.back x y v.body w.body p.body q.body (rest_same p.front q.front (p.back ++ x) (q.back ++ y) s.0 f) in
     (whole_same p.front p.back q.front q.back a b p.whole q.whole s.0 r.0, same_content v w (p.headers ∙ ap headers_of s.1 ∙ sym q.headers) r.1)
 
+-- no batch begins another
 pub same_batch : IsPrefixFree IsBatch
 same_batch a b x y v w p q e = same_items IsEvent same_event 0 0 a b x y v w refl p q e

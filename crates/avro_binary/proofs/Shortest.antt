@@ -29,6 +29,7 @@ longer k n (b ∷ c ∷ bytes) large g more =
     let rest = more g.2 (c ∷ bytes) g.4 high in
     omega (arith, ap length (groups_more k n large))
 
+-- the groups that are written for a number are no more than any that stand for it
 pub shortest_groups : (k n : ℕ) (bytes : List ℕ) → IsGroups bytes n → length (written_groups k n) ≤ length bytes
 shortest_groups zero n bytes g = omega (arith, ap length (groups_none n))
 shortest_groups (suc k) n bytes g =
@@ -37,12 +38,15 @@ shortest_groups (suc k) n bytes g =
       | inr le ↦ longer k n bytes le g (λ high rest h e. shortest_groups k (n / 128) rest (subst (λ (m : ℕ). IsGroups rest m) (sym e) h))
     ]
 
+-- no int is shorter than the one written
 pub shortest_int : IsShortest IsInt written_number
 shortest_int bytes z p = shortest_groups 10 (zigzag z) bytes p.groups
 
+-- no long is shorter than the one written
 pub shortest_long : IsShortest IsLong written_number
 shortest_long bytes z p = shortest_groups 10 (zigzag z) bytes p.groups
 
+-- no boolean is shorter than the one written
 pub shortest_boolean : IsShortest IsBoolean written_boolean
 shortest_boolean bytes true p = omega (arith, ap length p)
 shortest_boolean bytes false p = omega (arith, ap length p)
@@ -177,6 +181,7 @@ some_count bytes n (Sized front back k size whole first second e) =
     let some = some_groups front (zigzag (negsuc k)) first.groups in
     omega (arith, ap length whole, length-append front back)
 
+-- how many bytes written items take, with their count and the end
 pub items_len : {V : Type 0} (written : V → List ℕ) (values : List V) → length (written_items written values) ≡ length (flat_map written values) + count_len (length values) + 1
 items_len written [] = refl
 items_len written (value ∷ values) =
@@ -205,13 +210,16 @@ shortest_items Item written shortest bytes values i =
 
 -- ---- bytes, texts and events
 
+-- no bytes with their length are shorter than those written
 pub shortest_bytes : IsShortest IsBytes written_bytes
 shortest_bytes bytes content p =
     omega (arith, shortest_long p.front (pos (length content)) p.counted, ap length p.whole, length-append p.front content, length-append (written_number (pos (length content))) content)
 
+-- no text is shorter than the one written
 pub shortest_text : IsShortest IsText written_bytes
 shortest_text bytes text p = shortest_bytes bytes text p.counted
 
+-- no fixed value is shorter than its content
 pub shortest_fixed : IsShortest IsFixed (λ content. content)
 shortest_fixed bytes content p = omega (arith, ap length p.0)
 
@@ -271,23 +279,27 @@ shortest_headers bytes entries i =
     let count = more_count (length (headers_of entries)) (length entries) (omega arith) in
     omega (arith, items_len written_entry entries, items_len written_entry (headers_of entries))
 
+-- no event is shorter than the one written
 pub shortest_event : IsShortest IsEvent written_event
 shortest_event bytes event p =
     let headers = shortest_headers p.front p.entries p.map in
     let body = shortest_bytes p.back event.body p.body in
     omega (arith, ap (λ (h : List Header). length (written_map h)) p.headers, ap length p.whole, length-append p.front p.back, length-append (written_map event.headers) (written_bytes event.body))
 
+-- no batch is shorter than the one written
 pub shortest_batch : IsShortest IsBatch written_batch
 shortest_batch bytes events i = shortest_items IsEvent written_event shortest_event bytes events i
 
 -- ---- an event takes two bytes at least
 
+-- an event takes two bytes at least
 pub event_bytes : (bytes : List ℕ) (event : Content) → IsEvent bytes event → 2 ≤ length bytes
 event_bytes bytes event p =
     let map = blocks_len (IsEntry IsText) written_entry shortest_entry 0 p.front p.entries p.map in
     let body = some_groups p.body.front (zigzag (pos (length event.body))) p.body.counted.groups in
     omega (arith, map.1, ap length p.body.whole, length-append p.body.front event.body, ap length p.whole, length-append p.front p.back)
 
+-- the events of a batch take two bytes each at least, and its end one
 pub batch_bytes : (left : ℕ) (bytes : List ℕ) (events : List Content) → IsItems IsEvent left bytes events → 2 * length events < length bytes
 batch_bytes left bytes events (Next left' all front rest event others whole i more) =
     omega (arith, event_bytes front event i, batch_bytes left' rest others more, ap length whole, length-append front rest)

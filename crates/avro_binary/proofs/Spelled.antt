@@ -70,9 +70,11 @@ int_fits : (z : ℤ) → FitsSigned w32 z → zigzag z ≤ max_int
 int_fits (pos n) h = omega (arith, ints, h)
 int_fits (negsuc n) h = omega (arith, ints, h)
 
+-- each long within 64 bits is spelled as it is written
 pub longs_spelled : LongsAreSpelled
 longs_spelled z h = spelled_number (zigzag z) (long_fits z h)
 
+-- each int within 32 bits is spelled as it is written
 pub ints_spelled : IntsAreSpelled
 ints_spelled z h =
     let fits = int_fits z h in
@@ -82,6 +84,7 @@ ints_spelled z h =
     let s = a.short in
     record { groups = ten.groups; short = omega arith; fits = fits }
 
+-- each boolean is spelled as it is written
 pub booleans_spelled : BooleansAreSpelled
 booleans_spelled true = refl
 booleans_spelled false = refl
@@ -89,9 +92,11 @@ booleans_spelled false = refl
 natural_spelled : (n : ℕ) → n < 2 ^ 63 → IsLong (written_number (pos n)) (pos n)
 natural_spelled n small = spelled_number (2 * n) (omega arith)
 
+-- bytes with their length are spelled as they are written
 pub bytes_spelled : BytesAreSpelled
 bytes_spelled content small = record { front = written_number (pos (length content)); whole = refl; counted = natural_spelled (length content) small }
 
+-- a text is spelled as it is written
 pub texts_spelled : TextsAreSpelled
 texts_spelled text small utf8 = record { counted = bytes_spelled text small; utf8 = utf8 }
 
@@ -162,6 +167,7 @@ none_below (e ∷ es) = (tt, none_below es)
 headers_again : (es : List Header) → IsStrictlySortedBy key_cmp (keys_of es) → headers_of es ≡ es
 headers_again es sorted = fold_headers [] es (none_below es) sorted
 
+-- an event that memory holds is spelled as it is written
 pub events_spelled : EventsAreSpelled
 events_spelled event fits = record {
   front = written_map event.headers;
@@ -177,5 +183,6 @@ each_spelled : (events : List Content) → AllByRecursion FitsMemory events → 
 each_spelled [] all = tt
 each_spelled (e ∷ events) all = (events_spelled e all.0, each_spelled events all.1)
 
+-- a batch of events that memory holds is spelled as it is written
 pub batches_spelled : BatchesAreSpelled
 batches_spelled events few all = items_spelled IsEvent written_event events few (each_spelled events all)

@@ -18,10 +18,12 @@ counted bytes at start end n p q long e =
       counted = subst (λ (k : ℕ). IsLong (part bytes at start) (pos k)) (sym len) long;
     }
 
+-- a length below 0 is wrong where the value begins
 pub negative : (bytes : List ℕ) (at start k : ℕ) → IsPart bytes at start → IsLong (part bytes at start) (negsuc k) → WrongAt BytesFault bytes at at
 negative bytes at start k p long =
     (0, omega arith, Negative (part bytes at start) (drop start bytes) k (rest_part bytes at start p) long refl)
 
+-- content that ends early lacks bytes where it begins
 pub cut : (bytes : List ℕ) (at start n : ℕ) → IsPart bytes at start → IsLong (part bytes at start) (pos n) → length bytes - start < n → LacksAt BytesFault bytes at start (start + n)
 cut bytes at start n p long short =
     let len = length-part bytes at start p in

@@ -20,15 +20,18 @@ use Rattle.avro_ends.specs.Deliveries.{Judges, AnswersBy, Ends, Answered, Exchan
 
 -- ---- the dialer's links
 
+-- once the link that is out goes back, the dialer has all back
 pub settled_back : (told : Option LinksTold) (now : Option LinkTold) → IsOut told → IsSettled (kept_in told now)
 settled_back None now out = tt
 settled_back (Some l) None out = tt
 settled_back (Some l) (Some t) out = omega (arith, out, length-append l.kept (t ∷ []))
 
+-- a dialer that had all back and made no link still has all back
 pub settled_refused : (told : Option LinksTold) → IsSettled told → IsSettled (refused_link told)
 settled_refused None is = tt
 settled_refused (Some l) is = is
 
+-- a dialer that had all back and gave a link has one out
 pub dialled_out : (told : Option LinksTold) → IsSettled told → IsOut (gave_one told)
 dialled_out None is = tt
 dialled_out (Some l) is = omega (arith, is)
@@ -38,12 +41,14 @@ dialled_out (Some l) is = omega (arith, is)
 abbrev decided : Bool → Status → Decision
 decided same s = if same && (status_index s == 0) then Commit else Rollback
 
+-- a delivery is committed only for the status OK
 pub commits : (same : Bool) (s : Status) → decided same s ≡ Commit → s ≡ says.Ok
 commits true says.Ok e = refl
 commits true says.Failed e = absurd cc
 commits true says.Unknown e = absurd cc
 commits false s e = absurd cc
 
+-- where the serial is the one that was asked for, a rollback is for a status other than OK
 pub rolls : (same : Bool) (s : Status) → same ≡ true → decided same s ≡ Rollback → s ≡ says.Ok → ⊥
 rolls true says.Ok is e ok = cc
 rolls true says.Failed is e ok = cc
@@ -72,6 +77,7 @@ judged_finds first want serial payload Silent j = refl
 judged_finds first want serial payload Turns j = refl
 judged_finds first want serial payload NoMemory j = refl
 
+-- a reply that was heard and says OK answers the request
 pub answered_ok : (first : Bool) (want : ℕ) (message : Message) (more : Bool) (a b : Option LinkTold) → HearsReply (Ok (message, more)) a b → Judges first want message.serial message.payload.items (Ok tt) → Answered first want (Ok more) a b
 answered_ok first want message more a b (given, turns, quiets, heard, few, less, cut) judged = record {
   given = given;
@@ -82,6 +88,7 @@ answered_ok first want message more a b (given, turns, quiets, heard, few, less,
   ends = record { serial = message.serial; payload = message.payload.items; cut = cut; judged = judged };
 }
 
+-- a reply that was heard and refuses answers the request with its cause
 pub answered_err : (first : Bool) (want : ℕ) (message : Message) (more : Bool) (e : DeliverRefused) (a b : Option LinkTold) → HearsReply (Ok (message, more)) a b → Judges first want message.serial message.payload.items (Err e) → Answered first want (Err e) a b
 answered_err first want message more e a b (given, turns, quiets, heard, few, less, cut) judged = record {
   given = given;
@@ -92,6 +99,7 @@ answered_err first want message more e a b (given, turns, quiets, heard, few, le
   ends = inl (more, record { serial = message.serial; payload = message.payload.items; cut = cut; judged = judged });
 }
 
+-- a reply that was not heard leaves the request without one
 pub unanswered : (first : Bool) (want : ℕ) (e : DeliverRefused) (a b : Option LinkTold) → HearsReply (Err e) a b → Answered first want (Err e) a b
 unanswered first want e a b (given, turns, quiets, heard, lasts, unheard) = record { given = given; turns = turns; quiets = quiets; heard = heard; count = lasts; ends = inr unheard }
 
@@ -115,6 +123,7 @@ ends_of first want request (Err (Refused status)) given a b c waited is = (refl,
 ends_of first want request (Err (WrongSerial got asked)) given a b c waited is = (refl, elim is [ inl j ↦ inl j | inr u ↦ inr u ])
 ends_of first want request (Err (BadReply at)) given a b c waited is = (refl, elim is [ inl j ↦ inl j | inr u ↦ inr u ])
 
+-- a request that was sent whole, and then what was answered, is an exchange
 pub exchanged_by : (first : Bool) (want : ℕ) (request : List ℕ) (result : Result Bool DeliverRefused) (a b c : Option LinkTold) → Tells a b (Talks [] request 0) → Tells a b (Waited 0) → Answered first want result b c → Exchanged request first want result a c
 exchanged_by first want request result a b c talk waited is =
     let turns : 0 + is.turns ≡ is.turns = omega arith in
@@ -130,6 +139,7 @@ exchanged_by first want request result a b c talk waited is =
       ends = ends_of first want request result is.given a b c talk is.ends;
     }
 
+-- a request that broke off is an exchange that ended in a fault of the link
 pub exchange_failed : (first : Bool) (want : ℕ) (request : List ℕ) (a b : Option LinkTold) → BreaksOff request a b → Tells a b (Waited 0) → Exchanged request first want (Err LinkFault) a b
 exchange_failed first want request a b off waited = record {
   sent = take off.count request;

@@ -72,6 +72,7 @@ module _ {S : Type 0} (Takes : S → List Content → Verdict → S → Type 0) 
   ends_then OtherProtocol greeted old new xs ys rest sent p = (p.0, sent_then xs ys sent p.1, p.2)
   ends_then NoMemory greeted old new xs ys rest sent p = (sent_then xs ys sent p.0, p.1)
 
+  -- messages that were answered, and more after them
   pub goes_then : {a b c : S} {x y z : Option LinkTold} {g h i : Bool} {held bytes mid bytes' left given given' : List ℕ} {n m : ℕ} → Goes Takes a b x y g h held bytes mid given n → Goes Takes b c y z h i mid bytes' left given' m → Goes Takes a c x z g i held (bytes ++ bytes') left (given ++ given') (n + m)
   goes_then {a} {b} {c} {x} {y} {z} {g} {h} {i} {held} {bytes} {mid} {bytes'} {left} {given} {given'} {n} {m} p q = record {
     done = p.done ++ q.done;
@@ -84,6 +85,7 @@ module _ {S : Type 0} (Takes : S → List Content → Verdict → S → Type 0) 
         subst P (sym (texts-append p.done q.done)) (talks_then x y z given (texts p.done) given' (texts q.done) n m p.talk q.talk);
   }
 
+  -- messages that were answered, and after them a session's end
   pub breaks_then : {a b c : S} {x y z : Option LinkTold} {g h : Bool} {held bytes mid bytes' given given' : List ℕ} {n m : ℕ} {end : AvroEnd} → Goes Takes a b x y g h held bytes mid given n → Breaks Takes b c y z h mid bytes' given' m end → Breaks Takes a c x z g held (bytes ++ bytes') (given ++ given') (n + m) end
   breaks_then {a} {b} {c} {x} {y} {z} {g} {h} {held} {bytes} {mid} {bytes'} {given} {given'} {n} {m} {end} p q = record {
     done = p.done ++ q.done;
@@ -104,6 +106,7 @@ module _ {S : Type 0} (Takes : S → List Content → Verdict → S → Type 0) 
   pub read_goes : (a : S) (x y : Option LinkTold) (g : Bool) (held given : List ℕ) (n : ℕ) → Tells x y (Talks given [] n) → Goes Takes a a x y g g held [] held given n
   read_goes a x y g held given n talk = record { done = []; exchanged = (refl, refl); front = []; packs = refl; cut = append-nil held; talk = talk }
 
+  -- before anything was read or answered
   pub goes_none : (a : S) (x : Option LinkTold) (g : Bool) (held : List ℕ) → Goes Takes a a x x g g held [] held [] 0
   goes_none a x g held = read_goes a x x g held [] 0 (talks_none x)
 
@@ -130,6 +133,7 @@ module _ {S : Type 0} (Takes : S → List Content → Verdict → S → Type 0) 
   between_ends OtherProtocol greeted state done rest may part = absurd may
   between_ends NoMemory greeted state done rest may part = absurd may
 
+  -- after whole messages and a part of a pack the session may end
   pub ends_between : {a c : S} {x z : Option LinkTold} {g h : Bool} {held bytes left given : List ℕ} {n : ℕ} → Goes Takes a c x z g h held bytes left given n → IsPart left → (end : AvroEnd) → EndsBetween end → LeavesLink end x z → Breaks Takes a c x z g held bytes given n end
   ends_between {c = c} {x = x} {z = z} {h = h} {left = left} {given = given} {n = n} p part end may leaves = record {
     done = p.done;
@@ -191,15 +195,19 @@ module _ {S : Type 0} (Takes : S → List Content → Verdict → S → Type 0) 
     leaves = tt;
   }
 
+  -- messages of what was read already, and after them its end in the rest of it
   pub breaks_behind : {a b c : S} {x y z : Option LinkTold} {g h : Bool} {held bytes mid bytes' : List ℕ} {end : AvroEnd} → (all : List ℕ) → bytes ++ bytes' ≡ all → Goes Takes a b x y g h held bytes mid [] 0 → Breaks Takes b c y z h mid bytes' [] 0 end → Breaks Takes a c x z g held all [] 0 end
   breaks_behind {a} {c = c} {x = x} {z = z} {g = g} {held = held} {end = end} all whole p q = let P : List ℕ → Type 0 = λ l. Breaks Takes a c x z g held l [] 0 end in subst P whole (breaks_then p q)
 
+  -- messages of what was read already, and more in the rest of it
   pub goes_behind : {a b c : S} {x y z : Option LinkTold} {g h i : Bool} {held bytes mid bytes' left : List ℕ} → (all : List ℕ) → bytes ++ bytes' ≡ all → Goes Takes a b x y g h held bytes mid [] 0 → Goes Takes b c y z h i mid bytes' left [] 0 → Goes Takes a c x z g i held all left [] 0
   goes_behind {a} {c = c} {x = x} {z = z} {g = g} {i = i} {held = held} {left = left} all whole p q = let P : List ℕ → Type 0 = λ l. Goes Takes a c x z g i held l left [] 0 in subst P whole (goes_then p q)
 
+  -- a read that gave a piece, and the messages cut from it, are one turn
   pub turn_goes : {a c : S} {x y z : Option LinkTold} {g h : Bool} {held left : List ℕ} (piece : List ℕ) → Goes Takes a a x y g g held [] held piece 1 → Goes Takes a c y z g h held piece left [] 0 → Goes Takes a c x z g h held piece left piece 1
   turn_goes {a} {c} {x = x} {z = z} {g = g} {h = h} {held = held} {left = left} piece p q = let P : List ℕ → Type 0 = λ l. Goes Takes a c x z g h held piece left l 1 in subst P (append-nil piece) (goes_then p q)
 
+  -- a read that gave a piece, and the session's end in it, are one turn
   pub turn_breaks : {a c : S} {x y z : Option LinkTold} {g : Bool} {held : List ℕ} {end : AvroEnd} (piece : List ℕ) → Goes Takes a a x y g g held [] held piece 1 → Breaks Takes a c y z g held piece [] 0 end → Breaks Takes a c x z g held piece piece 1 end
   turn_breaks {a} {c} {x = x} {z = z} {g = g} {held = held} {end = end} piece p q = let P : List ℕ → Type 0 = λ l. Breaks Takes a c x z g held piece l 1 end in subst P (append-nil piece) (breaks_then p q)
 

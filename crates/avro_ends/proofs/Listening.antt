@@ -20,38 +20,45 @@ use Rattle.avro_ends.specs.Hearing.{most_quiets, Heard, IsRest, IsUnheard, finds
 
 -- ---- reads
 
+-- before the first read nothing was heard
 pub heard_none : (told : Option LinkTold) → Heard 0 [] 0 0 told told
 heard_none told = record { talk = talks_none told; waited = waited_none told }
 
+-- what was heard, and more of it, even the link's end
 pub heard_then : (found : ℕ) (a b c : Option LinkTold) (given given' : List ℕ) (n m q r : ℕ) → Heard 0 given n q a b → Heard found given' m r b c → Heard found (given ++ given') (n + m) (q + r) a c
 heard_then found a b c given given' n m q r first second = record {
   talk = talks_to found a b c given [] given' [] n m first.talk second.talk;
   waited = waited_then a b c q r first.waited second.waited;
 }
 
+-- a read that gave bytes is one turn
 pub heard_got : (n : ℕ) (into : List ℕ) (a b : Option LinkTold) → Hears (Ok (Got n)) into a b → Heard 0 (take n into) 1 0 a b
 heard_got n into a b read = record {
   talk = talks_got n into a b read;
   waited = tells_more a b (λ t u. u ≡ heard (Got n) into t) (Waited 0) (λ t u _ _ is. omega (arith, ap (λ (l : LinkTold). l.quiets) is)) read;
 }
 
+-- a read that waited in vain is one quiet turn
 pub heard_quiet : (into : List ℕ) (a b : Option LinkTold) → Hears (Ok Quiet) into a b → Heard 0 [] 1 1 a b
 heard_quiet into a b read = record {
   talk = talks_quiet into a b read;
   waited = tells_more a b (λ t u. u ≡ heard Quiet into t) (Waited 1) (λ t u _ _ is. omega (arith, ap (λ (l : LinkTold). l.quiets) is)) read;
 }
 
+-- a read that found the end is no turn
 pub heard_end : (into : List ℕ) (a b : Option LinkTold) → Hears (Ok End) into a b → Heard 1 [] 0 0 a b
 heard_end into a b read = record {
   talk = talks_end into a b read;
   waited = tells_more a b (λ t u. u ≡ heard End into t) (Waited 0) (λ t u _ _ is. omega (arith, ap (λ (l : LinkTold). l.quiets) is)) read;
 }
 
+-- a call that failed gave nothing and is no turn
 pub heard_broke : (a b : Option LinkTold) → Tells a b (λ t u. u ≡ broke t) → Heard 0 [] 0 0 a b
 heard_broke a b read = record { talk = talks_broke a b read; waited = waited_broke a b read }
 
 -- ---- packs
 
+-- what an open packing holds is a part of a pack
 pub part_of : (p : Packing) → IsOpen p → IsPart (held_in p)
 part_of (Holds bytes) is = is
 part_of (Over e) is = absurd is
@@ -63,6 +70,7 @@ rest_is n bytes =
       | inr le ↦ subst (λ (b : Bool). IsRest b (drop n bytes)) (sym (le-ltb n (length bytes) le)) (drop_all n bytes le)
     ]
 
+-- a pack that ends within a piece has bytes after it where the piece has more
 pub cuts_at : (held piece : List ℕ) (n serial : ℕ) (payload : List ℕ) → IsPack (held ++ take n piece) serial payload → Cuts (held ++ piece) serial payload (ltb n (length piece))
 cuts_at held piece n serial payload is = record {
   front = held ++ take n piece;
@@ -72,6 +80,7 @@ cuts_at held piece n serial payload is = record {
   rest = rest_is n piece;
 }
 
+-- a piece that ends no pack leaves a longer part of one
 pub piece_part : (p p' : Packing) (piece : List ℕ) (n : ℕ) → IsOpen p → Feeds p piece (Ok (n, None)) p' → CutsPiece (held_in p ++ piece) (Ok Part) p'
 piece_part (Holds old) p' piece n is feeds = (feeds.1, feeds.2)
 piece_part (Over e) p' piece n is feeds = absurd is
@@ -102,10 +111,12 @@ turn_waits (Over e) a b is h = absurd is
 behind_part : (p : Packing) → IsOpen p → IsPart (held_in p ++ [])
 behind_part p is = subst IsPart (sym (append-nil (held_in p))) (part_of p is)
 
+-- a read found the end within the reply
 pub turn_ends : (p after : Packing) (a b : Option LinkTold) (into : List ℕ) → IsOpen p → Hears (Ok End) into a b → HearsTurn (held_in p) (Err Ended) after a b
 turn_ends p after a b into is read =
     ([], 0, omega arith, heard_end into a b read, behind_part p is, tt)
 
+-- a read failed within the reply
 pub turn_fails : (p after : Packing) (a b : Option LinkTold) → IsOpen p → Tells a b (λ t u. u ≡ broke t) → HearsTurn (held_in p) (Err LinkFault) after a b
 turn_fails p after a b is read = ([], 0, omega arith, heard_broke a b read, (behind_part p is, failed_broke a b read), tt)
 
@@ -120,9 +131,11 @@ turn_lacks p after a is = ([], 0, omega arith, heard_none a, behind_part p is, t
 
 -- ---- the whole reply
 
+-- no bytes are the first part of a pack
 pub first_part : IsPart []
 first_part = InHead (omega arith)
 
+-- why no reply came is told also from before the earlier reads
 pub unheard_behind : (e : DeliverRefused) (given : List ℕ) (a b c : Option LinkTold) (given' taken : List ℕ) (n : ℕ) → Tells a b (Talks given' taken n) → IsUnheard e given b c → IsUnheard e given a c
 unheard_behind LinkFault given a b c given' taken n talk is = (is.0, failed_behind a b c given' taken n talk is.1)
 unheard_behind Ended given a b c given' taken n talk is = is

@@ -26,14 +26,17 @@ sent_as told now a b same talk = let P : List ℕ → Type 0 = λ l. Tells told 
 pub breaks_as : (told now : Option LinkTold) (a b : List ℕ) → a ≡ b → BreaksOff a told now → BreaksOff b told now
 breaks_as told now a b same off = let P : List ℕ → Type 0 = λ l. BreaksOff l told now in subst P same off
 
+-- a link of which nothing was asked gave and took nothing
 pub still : (told now : Option LinkTold) → now ≡ told → Tells told now (Talks [] [] 0)
 still told now same = let P : Option LinkTold → Type 0 = λ o. Tells told o (Talks [] [] 0) in subst P (sym same) (talks_none told)
 
 module _ {S : Type 0} (Takes : S → List Content → Verdict → S → Type 0) where
+  -- a batch that was taken is answered with the status of its verdict
   pub took : (old new : S) (greeted after : Bool) (serial : ℕ) (payload : List ℕ) (front : Vec ℕ Global) (batch : List Content) (verdict : Verdict) (status : Status) → Answers greeted payload (Ok (Events front batch)) after → IsTaken Takes old new front.items batch verdict status
       → Exchanged Takes greeted old (record { serial = serial; payload = payload; verdict = Some verdict; reply = front.items ++ response status }) after new
   took old new greeted after serial payload front batch verdict status answers (takes, is) = (Events front batch, answers, (verdict, status, refl, takes, is, refl))
 
+  -- a message that the hop answers itself changes nothing
   pub replied : (old : S) (greeted after : Bool) (serial : ℕ) (payload : List ℕ) (bytes : Vec ℕ Global) → Answers greeted payload (Ok (Reply bytes)) after → Exchanged Takes greeted old (record { serial = serial; payload = payload; verdict = None; reply = bytes.items }) after old
   replied old greeted after serial payload bytes answers = (Reply bytes, answers, (refl, refl, refl))
 
@@ -51,6 +54,7 @@ module _ {S : Type 0} (Takes : S → List Content → Verdict → S → Type 0) 
   events_serve old new told now greeted after serial payload front batch (Err (BadHandshake at)) answers bad = absurd bad
   events_serve old new told now greeted after serial payload front batch (Err OtherProtocol) answers bad = absurd bad
 
+  -- the same of a front that is given by its bytes
   pub events_serve_by : (old new : S) (told now : Option LinkTold) (greeted after : Bool) (serial : ℕ) (payload : List ℕ) (front : Vec ℕ Global) (batch : List Content) (result : Result (Unit {0}) AvroEnd) (bytes : List ℕ) → bytes ≡ front.items → Answers greeted payload (Ok (Events front batch)) after
       → ServesEvents Takes old new told now serial bytes batch result → ServesMessage Takes old new told now greeted after serial payload result
   events_serve_by old new told now greeted after serial payload front batch result bytes same answers serves =
@@ -79,12 +83,15 @@ module _ {S : Type 0} (Takes : S → List Content → Verdict → S → Type 0) 
   none_breaks : (old new : S) (told now : Option LinkTold) (greeted : Bool) (held all rest : List ℕ) (end : AvroEnd) → 0 ≡ finds end → held ++ all ≡ rest → now ≡ told → EndsBy Takes end greeted old new [] rest [] → LeavesLink end told now → Breaks Takes old new told now greeted held all [] 0 end
   none_breaks old new told now greeted held all rest end none cut same ends leaves = record { done = []; after = greeted; between = old; exchanged = (refl, refl); front = []; packs = refl; rest = rest; cut = cut; sent = []; talk = subst (λ (found : ℕ). Tells told now (TalksTo found [] [] 0)) none (still told now same); ends = ends; leaves = leaves }
 
+  -- a pack of too many buffers ends the session
   pub count_breaks : (old : S) (told : Option LinkTold) (greeted : Bool) (held all : List ℕ) (n : ℕ) → PassesCount (held ++ all) n → Breaks Takes old old told told greeted held all [] 0 (TooMany n)
   count_breaks old told greeted held all n passes = none_breaks old old told told greeted held all (held ++ all) (TooMany n) refl refl refl (refl, refl, passes) tt
 
+  -- a pack that is too large ends the session
   pub size_breaks : (old : S) (told : Option LinkTold) (greeted : Bool) (held all : List ℕ) (n : ℕ) → PassesSize (held ++ all) n → Breaks Takes old old told told greeted held all [] 0 (TooLarge n)
   size_breaks old told greeted held all n passes = none_breaks old old told told greeted held all (held ++ all) (TooLarge n) refl refl refl (refl, refl, passes) tt
 
+  -- when memory runs out the session ends with nothing more done
   pub memory_breaks : (old : S) (told : Option LinkTold) (greeted : Bool) (held all : List ℕ) → Breaks Takes old old told told greeted held all [] 0 NoMemory
   memory_breaks old told greeted held all = none_breaks old old told told greeted held all (held ++ all) NoMemory refl refl refl (refl, inl refl) tt
 

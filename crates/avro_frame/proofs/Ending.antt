@@ -15,6 +15,7 @@ in_place serial payload = ap (λ (t : List ℕ). put (begun serial ++ t) (u32_by
 pub ended : (old l : List ℕ) (serial : ℕ) (payload : List ℕ) → l ≡ u32_bytes (length payload) → old ≡ begun serial ++ payload → put old l ≡ pack serial (payload ∷ [])
 ended old l serial payload s is = ap (λ (t : List ℕ). put t l) is ∙ ap (λ (t : List ℕ). put (begun serial ++ payload) t) s ∙ in_place serial payload
 
+-- the bytes of an equal number are its four bytes
 pub as_bytes : (l : List ℕ) (m n : ℕ) → l ≡ to_be_bytes w32 m → m ≡ n → l ≡ u32_bytes n
 unfolding u32_bytes
 as_bytes l m n is same = is ∙ ap (λ (k : ℕ). to_be_bytes w32 k) same

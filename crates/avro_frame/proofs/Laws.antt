@@ -39,6 +39,7 @@ same_head m n j k x y ml nl jl kl e =
 pub behind : (a x : List ℕ) (m : ℕ) (p : List ℕ) → (i : IsPack a m p) → a ++ x ≡ head m (length i.buffers) ++ (flat_map buffer i.buffers ++ x)
 behind a x m p i = ap (λ (t : List ℕ). t ++ x) i.whole ∙ append_assoc (head m (length i.buffers)) (flat_map buffer i.buffers) x
 
+-- packs at the front of the same bytes are the same
 pub one_pack_lem : (a b x y : List ℕ) (m n : ℕ) (p q : List ℕ) → IsPack a m p → IsPack b n q → a ++ x ≡ b ++ y → (a ≡ b) × (m ≡ n) × (p ≡ q)
 one_pack_lem a b x y m n p q i j e =
     let i_small : length (joined i.buffers) ≤ max_bytes = rw (← i.joins) i.small in
@@ -72,9 +73,11 @@ lacked_in a x m p serial count cs rest i g =
     let r = lacked i.buffers cs x rest (omega (arith, h.1, g.lacking)) (omega arith) (omega (arith, g.small)) h.2 in
     (r.0, r.1, r.2, omega (arith, r.3))
 
+-- the length in front is that of the buffer there, and its bytes follow
 pub same_len : (b more rest : List ℕ) (len : ℕ) → len < 2 ^ 32 → length b ≤ max_bytes → u32_bytes len ++ rest ≡ buffer b ++ more → (len ≡ length b) × (rest ≡ b ++ more)
 same_len b more rest len fits small e = same_number len (length b) rest (b ++ more) fits (omega arith) (e ∙ append_assoc (u32_bytes (length b)) b more)
 
+-- what begins with a whole pack isn't a part of one
 pub no_part : (a x : List ℕ) (m : ℕ) (p : List ℕ) → IsPack a m p → IsPart (a ++ x) → ⊥
 no_part a x m p i (InHead short) =
     omega (arith, ap length (behind a x m p i), length-append (head m (length i.buffers)) (flat_map buffer i.buffers ++ x), length-head m (length i.buffers))
@@ -86,11 +89,13 @@ no_part a x m p i (InBuffer serial count cs len rest g fits short sum) =
     let s = same_len r.0 r.1 rest len fits (omega (arith, r.3)) r.2 in
     omega (arith, s.0, ap length s.1, length-append r.0 r.1)
 
+-- what begins with a whole pack doesn't pass the limit of buffers
 pub no_count : (a x : List ℕ) (m n : ℕ) (p : List ℕ) → IsPack a m p → PassesCount (a ++ x) n → ⊥
 no_count a x m n p i g =
     let h = same_head m g.serial (length i.buffers) n (flat_map buffer i.buffers ++ x) g.rest i.serial_fits g.serial_fits (omega (arith, i.few)) g.fits (sym (behind a x m p i) ∙ g.whole) in
     omega (arith, h.1, i.few, g.many)
 
+-- what begins with a whole pack doesn't pass the limit of bytes
 pub no_size : (a x : List ℕ) (m n : ℕ) (p : List ℕ) → IsPack a m p → PassesSize (a ++ x) n → ⊥
 no_size a x m n p i g =
     let r = lacked_in a x m p g.serial g.count g.buffers (u32_bytes g.len ++ g.rest) i g.begun in

@@ -74,11 +74,13 @@ buffer_size bytes bs len rest n p small fits short sum (Second b more e within) 
     let k = same_len b more rest len fits (omega arith) e in
     absurd (omega (arith, k.0, ap length k.1, length-append b more))
 
+-- a part of a pack doesn't pass the limit of buffers
 pub part_count : {A : Type 0} (bytes : List ℕ) (n : ℕ) → IsPart bytes → PassesCount bytes n → A
 part_count bytes n (InHead short) p = absurd (omega (arith, ap length p.whole, length-append (head p.serial n) p.rest, length-head p.serial n))
 part_count bytes n (InLength serial count bs rest g short) p = begins_count bytes serial count bs rest n g p
 part_count bytes n (InBuffer serial count bs len rest g fits short sum) p = begins_count bytes serial count bs (u32_bytes len ++ rest) n g p
 
+-- a part of a pack doesn't pass the limit of bytes
 pub part_size : {A : Type 0} (bytes : List ℕ) (n : ℕ) → IsPart bytes → PassesSize bytes n → A
 part_size bytes n (InHead short) p =
     absurd (omega (arith, ap length p.begun.whole, length-append (head p.serial p.count) (flat_map buffer p.buffers ++ (u32_bytes p.len ++ p.rest)), length-head p.serial p.count))
@@ -87,9 +89,11 @@ part_size bytes n (InLength serial count bs rest g short) p =
 part_size bytes n (InBuffer serial count bs len rest g fits short sum) p =
     buffer_size bytes bs len rest n p g.small fits short sum (meets bytes serial p.serial count p.count bs p.buffers (u32_bytes len ++ rest) (u32_bytes p.len ++ p.rest) g p.begun)
 
+-- the same bytes pass the limit of buffers with one count
 pub same_count : (bytes : List ℕ) (m n : ℕ) → PassesCount bytes m → PassesCount bytes n → m ≡ n
 same_count bytes m n p q = (same_head p.serial q.serial m n p.rest q.rest p.serial_fits q.serial_fits p.fits q.fits (sym p.whole ∙ q.whole)).1
 
+-- what passes the limit of buffers doesn't pass that of bytes
 pub count_size : {A : Type 0} (bytes : List ℕ) (m n : ℕ) → PassesCount bytes m → PassesSize bytes n → A
 count_size bytes m n p q = begins_count bytes q.serial q.count q.buffers (u32_bytes q.len ++ q.rest) m q.begun p
 
@@ -100,6 +104,7 @@ same_sum bytes m n p q (Same s e) =
 same_sum bytes m n p q (First b more e within) = no_pass q.len q.rest b more (length (joined q.buffers)) n (length (joined p.buffers)) q.fits e q.sum within p.begun.small q.large
 same_sum bytes m n p q (Second b more e within) = no_pass p.len p.rest b more (length (joined p.buffers)) m (length (joined q.buffers)) p.fits e p.sum within q.begun.small p.large
 
+-- the same bytes pass the limit of bytes with one sum
 pub same_size : (bytes : List ℕ) (m n : ℕ) → PassesSize bytes m → PassesSize bytes n → m ≡ n
 same_size bytes m n p q =
     same_sum bytes m n p q (meets bytes p.serial q.serial p.count q.count p.buffers q.buffers (u32_bytes p.len ++ p.rest) (u32_bytes q.len ++ q.rest) p.begun q.begun)
@@ -161,6 +166,7 @@ failed_same NoMemory = tt
 failed_feed : (e : PackRefused) (r s : Result (ℕ × Option Message) PackRefused) (new new' : Packing) → (r ≡ Err e) × (new ≡ Failed e) → (s ≡ Err e) × (new' ≡ Failed e) → SameFeed r new s new'
 failed_feed e r s new new' p q = rw (p.0, p.1, q.0, q.1) (failed_same e)
 
+-- the same piece after the same bytes is answered the same, but for out of memory
 pub one_feed_lem : OneFeed
 one_feed_lem (Holds old) piece r s new new' p q = bytes_feed old piece r s new new' p q
 one_feed_lem (Failed e) piece r s new new' p q = failed_feed e r s new new' p q

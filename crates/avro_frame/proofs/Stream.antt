@@ -104,6 +104,7 @@ fed_cuts before stream messages end (Lacks old after last piece rest more f fed)
     rw e (fed_cuts after (piece ++ rest) more last fed (rw e at kept))
 fed_cuts before stream messages end (Refused old after piece rest e some f) kept = refused old after piece rest e some f
 
+-- a stream that is fed piece by piece is cut into its packs
 pub feeding_cuts : FeedingCuts
 feeding_cuts stream messages end fed = fed_cuts (Holds []) stream messages end fed (InHead (omega arith))
 
@@ -134,11 +135,13 @@ cut_same a b m n end other e (Pack first rest payload serial more last i cut) (P
     let tail = r.0 in
     (cc, r.1)
 
+-- a stream is cut in no other way
 pub one_cut_lem : OneCut
 one_cut_lem stream messages others end other c d = cut_same stream stream messages others end other refl c d
 
 -- ---- writing
 
+-- what is written is a pack with one buffer
 pub written_is_pack : WrittenIsPack
 written_is_pack serial payload fits small = record {
   buffers = payload ∷ [];

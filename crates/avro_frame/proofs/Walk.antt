@@ -25,6 +25,7 @@ head_of held n fits len e =
     let back : u32_bytes n ≡ drop 4 held = e ∙ take_all 4 (drop 4 held) (omega (arith, length-drop 4 held)) in
     (serial, u32_below (take 4 held) (IsBytes-take 4 held fits), sym (rw (front, back) (take-append-drop 4 held)))
 
+-- a head has eight bytes
 pub length-head : (serial count : ℕ) → length (head serial count) ≡ 8
 length-head serial count = length-append (u32_bytes serial) (u32_bytes count) ∙ omega (arith, length-u32 serial, length-u32 count)
 
@@ -84,6 +85,7 @@ close_at held serial left sum buffers (Some len) part whole sum_is fits few long
       few = omega arith;
     }
 
+-- the opened buffer is all there, so it is one of the whole ones
 pub close : (held : List ℕ) (need sum left ahead : ℕ) → (i : InBuffers held need sum left ahead) → opened_len i.opened ≤ length i.part → Closed held sum left (drop (opened_len i.opened) i.part)
 close held need sum left ahead i long = close_at held i.serial left sum i.buffers i.opened i.part i.whole i.sum_is i.serial_fits i.few long
 
@@ -107,6 +109,7 @@ last_number held rest need sum left n k len here e =
     let at : length front ≡ need - 4 = omega (arith, ap length whole, length-append front rest) in
     e ∙ ap (λ (x : List ℕ). take 4 (drop (need - 4) x)) whole ∙ ap (take 4) (drop_at front rest (need - 4) at) ∙ take_all 4 rest (omega arith)
 
+-- the number that was read is the length of the next buffer
 pub next_buffer : (held : List ℕ) (need sum left n : ℕ) → InBuffers held need sum left 4 → length held ≡ need → u32_bytes n ≡ take 4 (drop (need - 4) held) → (rest : List ℕ) × Closed held sum left rest × (u32_bytes n ≡ rest)
 next_buffer held need sum left n i here e =
     let k = closed_here held need sum left 4 i here in
@@ -128,6 +131,7 @@ opens held rest need sum left more n ahead k more_is e here small = record {
   small = small;
 }
 
+-- a length that makes the sum too large passes the limit of bytes
 pub passes_size : (held rest : List ℕ) (sum left n : ℕ) → Closed held sum left rest → 0 < left → u32_bytes n ≡ rest → n < 2 ^ 32 → sum ≤ max_bytes → max_bytes < sum + n → PassesSize held (sum + n)
 passes_size held rest sum left n k some e fits small large = record {
   serial = k.serial;
@@ -147,6 +151,7 @@ passes_size held rest sum left n k some e fits small large = record {
   large = large;
 }
 
+-- a head that counts too many buffers passes the limit of buffers
 pub head_passes : (held : List ℕ) (n : ℕ) → IsBytes held → length held ≡ 8 → u32_bytes n ≡ take 4 (drop 4 held) → n < 2 ^ 32 → max_buffers < n → PassesCount held n
 head_passes held n fits len e below many =
     let h = head_of held n fits len e in
@@ -159,6 +164,7 @@ head_passes held n fits len e below many =
       many = many;
     }
 
+-- a head that counts few enough leads on to the buffers
 pub head_opens : (held : List ℕ) (n ahead : ℕ) → IsBytes held → length held ≡ 8 → u32_bytes n ≡ take 4 (drop 4 held) → n ≤ max_buffers → InBuffers held (8 + ahead) 0 n ahead
 head_opens held n ahead fits len e few =
     let h = head_of held n fits len e in
@@ -176,6 +182,7 @@ ended held [] sum k none small = record {
 }
 ended held (x ∷ rest) sum k none small = absurd (omega arith)
 
+-- where no buffer is left and all bytes are there, the pack is whole
 pub ends : (held : List ℕ) (need sum : ℕ) → InBuffers held need sum 0 0 → length held ≡ need → IsEnded held
 ends held need sum i here =
     let k = closed_here held need sum 0 0 i here in
@@ -204,6 +211,7 @@ length_part held rest sum left k some short small =
       small = omega arith;
     }) short
 
+-- among buffers, bytes before the next step are a part of a pack
 pub buffers_part : (held : List ℕ) (need sum left ahead : ℕ) → InBuffers held need sum left ahead → length held < need → ahead ≤ 4 → (0 < ahead → 0 < left) → IsPart held
 buffers_part held need sum left ahead i behind four more =
     elim (cases_lt (length i.part) (opened_len i.opened)) [
@@ -215,6 +223,7 @@ buffers_part held need sum left ahead i behind four more =
           length_part held (drop (opened_len i.opened) i.part) sum left (close held need sum left ahead i le) (more some) short i.small
     ]
 
+-- wherever the next step is due, fewer bytes are a part of a pack
 pub part_of : (held : List ℕ) (need sum : ℕ) (due : Due) → IsDue held need sum due → length held < need → IsPart held
 part_of held need sum Head i behind = InHead (omega (arith, i.0))
 part_of held need sum (Length left) i behind = buffers_part held need sum left 4 i.0 behind (omega arith) (λ _. i.1)
@@ -240,6 +249,7 @@ more_bytes held more need sum left ahead i within =
       small = i.small;
     }
 
+-- bytes that do not pass the next step leave it due
 pub advance : (held more : List ℕ) (need sum : ℕ) (due : Due) → IsDue held need sum due → length held + length more ≤ need → IsDue (held ++ more) need sum due
 advance held more need sum Head i within = (i.0, i.1, omega (arith, i.0, length-append held more))
 advance held more need sum (Length left) i within = (more_bytes held more need sum left 4 i.0 within, i.1)
@@ -251,11 +261,13 @@ room_left held after need Head new behind s = behind
 room_left held after need (Length left) new behind s = behind
 room_left held after need End new behind s = absurd s
 
+-- no step is due yet where bytes are lacking
 pub behind_of : (held : List ℕ) (need : ℕ) (due : Due) → length held < need → IsBehind held need due
 behind_of held need Head lt = lt
 behind_of held need (Length left) lt = lt
 behind_of held need End lt = omega arith
 
+-- after a step that goes on, the cursor is where the next one is due
 pub goes_on : (held : List ℕ) (due : Due) (new : Cursor) → Steps held due More new → IsAt held new × IsBehind held new.need new.due
 goes_on held Head new s = s
 goes_on held (Length left) new s = s
@@ -282,6 +294,7 @@ piece_more old held new piece taken room within e f =
 
 -- ---- the buffers again
 
+-- a buffer takes four bytes more than it holds
 pub length-buffer : (b : List ℕ) → length (buffer b) ≡ 4 + length b
 length-buffer b = length-append (u32_bytes (length b)) b ∙ omega (arith, length-u32 (length b))
 
@@ -303,6 +316,7 @@ joins_left rest payload others first (b ∷ bs) total fits e f shorter found =
     let g = found b (flat_map buffer bs) small e in
     (bs, g.1, f ∙ rw (g.0, append_assoc payload b (joined bs)) refl)
 
+-- the first buffer of what is left is joined to the payload
 pub joins_more : (bytes rest payload others first : List ℕ) → Joins bytes rest payload → length others < length rest → ((b : List ℕ) (r : List ℕ) → length b < 2 ^ 32 → rest ≡ buffer b ++ r → (first ≡ b) × (others ≡ r)) → Joins bytes others (payload ++ first)
 joins_more bytes rest payload others first so_far shorter found buffers fits e =
     let k = so_far buffers fits e in
@@ -313,6 +327,7 @@ joins_none rest payload [] total fits e f none = sym (f ∙ append-nil payload)
 joins_none rest payload (b ∷ bs) total fits e f none =
     absurd (none b (flat_map buffer bs) (omega (arith, ap length f, length-append payload (b ++ joined bs), length-append b (joined bs))) e)
 
+-- where no buffer is left, the payload is all of them joined
 pub joins_all : (bytes rest payload : List ℕ) → Joins bytes rest payload → ((b : List ℕ) (r : List ℕ) → length b < 2 ^ 32 → rest ≡ buffer b ++ r → ⊥) → (buffers : List (List ℕ)) → length (joined buffers) < 2 ^ 32 → bytes ≡ flat_map buffer buffers → payload ≡ joined buffers
 joins_all bytes rest payload so_far none buffers fits e =
     let k = so_far buffers fits e in
@@ -320,6 +335,7 @@ joins_all bytes rest payload so_far none buffers fits e =
 
 -- ---- the contract of a piece
 
+-- a front as long as the piece is the piece
 pub all_taken : (piece : List ℕ) (n : ℕ) → n ≡ length piece → take n piece ≡ piece
 all_taken piece n e = take_all n piece (omega arith)
 
@@ -355,9 +371,11 @@ size_more held more n p = record {
   large = p.large;
 }
 
+-- a front of the piece and the rest of it, after the old bytes, are the whole piece
 pub whole_piece : (old piece : List ℕ) (n : ℕ) → (old ++ take n piece) ++ drop n piece ≡ old ++ piece
 whole_piece old piece n = append_assoc old (take n piece) (drop n piece) ∙ ap (λ (x : List ℕ). old ++ x) (take-append-drop n piece)
 
+-- bytes that pass a limit in a front of the piece refuse the piece
 pub refused_of : (old piece : List ℕ) (n : ℕ) (e : PackRefused) → PassesLimit (old ++ take n piece) e → Refuses old piece e (Failed e)
 refused_of old piece n (TooMany k) p = (subst (λ (x : List ℕ). PassesCount x k) (whole_piece old piece n) (count_more (old ++ take n piece) (drop n piece) k p), refl)
 refused_of old piece n (TooLarge k) p = (subst (λ (x : List ℕ). PassesSize x k) (whole_piece old piece n) (size_more (old ++ take n piece) (drop n piece) k p), refl)

@@ -82,6 +82,7 @@ dialogue_same g h ms ns vs ws rs ss end other p q r (Refused a a' serial payload
     let m = cons_same (serial, payload) (serial', payload') messages messages' q in
     (refl, ap (λ (t : HopRefused). Ended t) (refused_once a b payload payload' e e' a' b' p (ap (λ (t : ℕ × List ℕ). t.1) m.0) some some' x x'))
 
+-- messages and verdicts lead to the same replies and the same end
 pub one_dialogue_lem : OneDialogue
 one_dialogue_lem greeted messages verdicts replies others end other d f = dialogue_same greeted greeted messages messages verdicts verdicts replies others end other refl refl refl d f
 
@@ -97,6 +98,7 @@ joined g h ms ns vs ws rs ss end last (Answered a a' serial payload reply asked 
     (Answered a a' serial payload reply asked told (verdicts ++ ws) (messages ++ ns) (replies ++ ss) end x y (joined a' h messages ns verdicts ws replies ss end stands f e d))
 joined g h ms ns vs ws rs ss end last (Refused a a' serial payload messages refusal some x) e d = absurd cc
 
+-- a dialogue that waits goes on with another one
 pub dialogues_join : DialoguesJoin
 dialogues_join greeted after messages more verdicts further replies later end d f = joined greeted after messages more verdicts further replies later end (Waits after) d refl f
 
@@ -105,6 +107,7 @@ kept g h ms vs rs last (Silent a) e = refl
 kept g h ms vs rs last (Answered a a' serial payload reply asked told verdicts messages replies stands x y f) e = ap (λ (t : List ℕ). serial ∷ t) (kept a' h messages verdicts replies stands f e)
 kept g h ms vs rs last (Refused a a' serial payload messages refusal some x) e = absurd cc
 
+-- a connection that waits has answered each message once, in order and under its serial
 pub serials_are_kept : SerialsAreKept
 serials_are_kept greeted after messages verdicts replies d = kept greeted after messages verdicts replies (Waits after) d refl
 
@@ -146,5 +149,6 @@ goes_no_further g ms more vs rs last e (Answered a a' serial payload reply asked
     Answered a a' serial payload reply asked told verdicts (messages ++ more) replies stands x y (goes_no_further a' messages more verdicts replies stands e f p)
 goes_no_further g ms more vs rs last e (Refused a a' serial payload messages refusal some x) p = Refused a a' serial payload (messages ++ more) refusal some x
 
+-- a connection ends at a message that is refused, and what comes behind it changes nothing
 pub ends_are_final : EndsAreFinal
 ends_are_final greeted messages more verdicts replies e d = (ends_at greeted messages verdicts replies (Ended e) e d refl, goes_no_further greeted messages more verdicts replies (Ended e) e d refl)

@@ -19,6 +19,7 @@ use Rattle.avro_hop.specs.Parameters.{CallsAt}
 use Rattle.avro_hop.specs.Dialogue.{Greets, Opens, InRequest, InCall, AnswersFirst, AnswersCall}
 use Rattle.avro_hop.proofs.Calling.{place-shift}
 
+-- a request that was read, and the bytes after it
 pub greets : (bytes : List ℕ) (call : ℕ) (r : Request) → IsPart bytes 0 call → IsRequest (part bytes 0 call) r → Greets bytes (drop call bytes) r
 greets bytes call r p i = record { front = part bytes 0 call; whole = rest_part bytes 0 call p; request = i }
 
@@ -29,12 +30,14 @@ placed Faults bytes at (Bad field) f = (field, refl)
 placed Faults bytes at (TooLarge n end) f = absurd f
 placed Faults bytes at values.NoMemory f = absurd f
 
+-- a first message whose request is at fault is refused at its place
 pub request_refused : (bytes : List ℕ) (at : ℕ) (e : ValueRefused) → IsFault RequestFault bytes 0 e → IsPlaceOf e at → AnswersFirst bytes (Err (BadHandshake at)) false
 request_refused bytes at (Short field need) f p = ((Lacks f.0 f.1, InRequest f.4, omega (arith, f.2, p)), refl)
 request_refused bytes at (Bad field) f p = ((Wrong f.0, InRequest f.2, omega (arith, f.1, p)), refl)
 request_refused bytes at (TooLarge n end) f p = absurd f
 request_refused bytes at values.NoMemory f p = absurd f
 
+-- a first message of another protocol is refused, or there is no memory to tell
 pub match_refused : (bytes : List ℕ) (call : ℕ) (r : Request) (e : HopRefused) → IsPart bytes 0 call → IsRequest (part bytes 0 call) r → Matches r (Err e) → AnswersFirst bytes (Err e) false
 match_refused bytes call r (BadHandshake at) p i m = absurd m
 match_refused bytes call r OtherProtocol p i m = ((drop call bytes, r, greets bytes call r p i, m), refl)
@@ -50,9 +53,11 @@ opens_call Both bytes call asked other c = (c, refl)
 opens_call Client bytes call asked other c = (c, refl)
 opens_call Stranger bytes call asked other c = absurd (other refl)
 
+-- a client that is known has its call answered after the handshake
 pub first_opened : (bytes : List ℕ) (call : ℕ) (r : Request) (m : Match) (asked : Asked) → IsPart bytes 0 call → IsRequest (part bytes 0 call) r → IsMatch r m → (m ≡ Stranger → ⊥) → CallsAt (greeting m) bytes call (Ok asked) → AnswersFirst bytes (Ok asked) true
 first_opened bytes call r m asked p i known other c = (drop call bytes, r, m, greets bytes call r p i, known, opens_call m bytes call asked other c)
 
+-- a client that is known, but whose call is refused
 pub first_refused : (bytes front : List ℕ) (call : ℕ) (r : Request) (m : Match) (e : HopRefused) → IsPart bytes 0 call → IsRequest (part bytes 0 call) r → IsMatch r m → (m ≡ Stranger → ⊥) → CallsAt front bytes call (Err e) → AnswersFirst bytes (Err e) false
 first_refused bytes front call r m (BadHandshake at) p i known other c =
     let len = length-part bytes 0 call p in

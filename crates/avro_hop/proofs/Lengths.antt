@@ -22,6 +22,7 @@ use Rattle.avro_hop.specs.Bounds.{max_greeting, IsBounded}
 
 -- ---- what is written
 
+-- how long this agent's protocol text is
 pub text_len : length own_text ≡ 509
 unfolding own_text
 text_len = refl
@@ -32,13 +33,16 @@ digest_len state zero = refl
 digest_len state (suc n) =
     omega (arith, digest_len state n, length-append (digest_bytes state n) (to_le_bytes w32 (slice_index state n)))
 
+-- how long the text's hash is
 pub hash_len : length own_hash ≡ 16
 unfolding md5
 hash_len = digest_len _ 4
 
+-- a number below 64 is written in one byte
 pub small_len : (n : ℕ) → n < 64 → length (written_number (pos n)) ≡ 1
 small_len n small = ap length (groups_last 9 (2 * n) (omega arith))
 
+-- how long the text is at most with its length before it
 pub counted_len : length (written_bytes own_text) ≤ 511
 counted_len =
     let few : length (written_number (pos 509)) ≤ 2 = few_groups 10 2 1018 (omega arith) (omega arith) in
@@ -65,6 +69,7 @@ below_three status.Ok = omega arith
 below_three status.Failed = omega arith
 below_three status.Unknown = omega arith
 
+-- how long a response to a call is
 pub response_len : (s : Status) → length (response s) ≡ 3
 response_len s =
     let index = status_index s in
@@ -102,6 +107,7 @@ opened_bounded Client rest message asked g within o = bounded (greeting Client) 
 opened_bounded Stranger rest message (Reply x) g within o = omega (arith, ap length o.0, greeting_len Stranger)
 opened_bounded Stranger rest message (Events f b) g within o = absurd o
 
+-- what is answered to a message is bounded
 pub answer_bounded : (greeted : Bool) (bytes : List ℕ) (result : Result Asked HopRefused) (g : Bool) → Answers greeted bytes result g → IfOk result (λ asked. IsBounded bytes asked)
 answer_bounded true bytes (Ok asked) g p = bounded [] bytes bytes p.0.0 asked (omega arith) (omega arith) p.0.1 p.0.2
 answer_bounded false bytes (Ok asked) g p =

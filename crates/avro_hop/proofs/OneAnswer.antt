@@ -99,6 +99,7 @@ same_fault bytes f g (InCall front rest r inner whole request known h e) (InCall
 
 -- ---- all messages
 
+-- a message has one answer, except when out of memory
 pub one_answer_lem : OneAnswer
 one_answer_lem false bytes (Ok a) (Ok b) g h p q = opened_same bytes a b g h p q
 one_answer_lem false bytes (Ok a) (Err (BadHandshake at)) g h p q = opened_fault bytes a g q.0.0 p q.0.1

@@ -24,6 +24,7 @@ use Rattle.avro_hop.proofs.OneReading.{same_option, option_whole, same_head, hea
 at_index : {A : Type 0} (bytes front rest : List ℕ) (z : ℤ) (f : Fault) → IntFault bytes f → bytes ≡ front ++ rest → IsInt front z → A
 at_index bytes front rest z f h whole i = absurd (int_whole front rest z f i (subst (λ (t : List ℕ). IntFault t f) whole h))
 
+-- a value that may be missing has one fault where the value has one
 pub one_option : (Faults : List ℕ → Fault → Type 0) → HasOneFault Faults → HasOneFault (OptionFault Faults)
 one_option Faults one bytes f g (InIndex h) (InIndex k) = one_int bytes f g h k
 one_option Faults one bytes f g (InIndex h) (OtherIndex front rest z whole i zero other e) = at_index bytes front rest z f h whole i
@@ -47,11 +48,13 @@ one_tail bytes f g h k = one_of_pair IsFixed FixedFault (OptionFault MetaFault) 
 one_told : HasOneFault (PairFault (IsOption IsText) (OptionFault TextFault) TailFault)
 one_told bytes f g h k = one_of_pair (IsOption IsText) (OptionFault TextFault) TailFault (same_option IsText same_text) (option_whole IsText TextFault text_whole) (one_option TextFault one_text) one_tail bytes f g h k
 
+-- a request is at fault at one place
 pub one_request_fault : OneRequestFault
 one_request_fault bytes f g h k = one_of_pair IsFixed FixedFault (PairFault (IsOption IsText) (OptionFault TextFault) TailFault) same_fixed fixed_whole one_fixed one_told bytes f g h k
 
 -- ---- calls
 
+-- a value is at fault, or has bytes after it, at one place
 pub one_whole : {V : Type 0} (Spells : List ℕ → V → Type 0) (Faults : List ℕ → Fault → Type 0) → IsPrefixFree Spells → ExcludesFaults Spells Faults → HasOneFault Faults → HasOneFault (WholeFault Spells Faults)
 one_whole Spells Faults free whole one bytes f g (inl h) (inl k) = one bytes f g h k
 one_whole Spells Faults free whole one bytes f g (inl h) (inr t) = absurd (whole t.front t.rest t.value f t.spelled (subst (λ (x : List ℕ). Faults x f) t.whole h))
@@ -69,6 +72,7 @@ one_parameter name bytes f g (OfMany e h) (OfMany e' k) = one_whole IsBatch Batc
 one_head : HasOneFault HeadFault
 one_head bytes f g h k = one_of_pair IsMeta MetaFault TextFault same_meta meta_whole one_meta one_text bytes f g h k
 
+-- a call is at fault at one place
 pub one_call_fault : OneCallFault
 one_call_fault bytes f g (InHead h) (InHead k) = one_head bytes f g h k
 one_call_fault bytes f g (InHead h) (InParameter head rest name inner whole named k e) =
@@ -98,12 +102,14 @@ pub known_stranger : {A : Type 0} (r : Request) → IsKnown r → IsMatch r Stra
 known_stranger r (inl h) s = absurd (s.0 h)
 known_stranger r (inr k) s = some_none k.0 (sym k.1 ∙ s.1)
 
+-- a known client's text is of no other protocol
 pub known_other : {A : Type 0} (r : Request) → IsKnown r → IsOther r → A
 known_other r (inl h) o = absurd (o.0 h)
 known_other r (inr k) o =
     let same = same_some k.0 o.1.0 (sym k.1 ∙ o.1.1) in
     not_both (is_accepted k.0) k.2 (ap is_accepted same ∙ o.1.2)
 
+-- the hashes of a request match in one way
 pub same_match : (r : Request) (m n : Match) → IsMatch r m → IsMatch r n → m ≡ n
 same_match r Both Both p q = refl
 same_match r Both Client p q = absurd (q.1 p.1)
@@ -115,10 +121,12 @@ same_match r Stranger Both p q = known_stranger r q.0 p
 same_match r Stranger Client p q = known_stranger r q.0 p
 same_match r Stranger Stranger p q = refl
 
+-- a request that has a match is not of another protocol
 pub match_other : {A : Type 0} (r : Request) (m : Match) → IsMatch r m → IsOther r → A
 match_other r Both p o = known_other r p.0 o
 match_other r Client p o = known_other r p.0 o
 match_other r Stranger p o = some_none o.1.0 (sym o.1.1 ∙ p.1)
 
+-- a request has one match, or its text is of another protocol
 pub one_match : OneMatch
 one_match r m n p = (same_match r m n p, λ o. match_other r m p o)

@@ -16,6 +16,7 @@ use Rattle.avro_hop.specs.Handshake.{Request, IsTail, TailFault}
 use Rattle.avro_hop.specs.Calls.{append, append_batch, Call, Takes, IsHead, HeadFault, IsOne, Asks, Empty, Strange, One, Many, ParameterFault, OfOne, OfMany, InHead, InParameter}
 use Rattle.avro_hop.specs.Laws.{OneRequest, NoRequestFault, OneCall, NoCallFault}
 
+-- bytes of the same two parts are the same
 pub whole_same : (a b c d w z : List ℕ) → w ≡ a ++ b → z ≡ c ++ d → a ≡ c → b ≡ d → w ≡ z
 whole_same a b c d w z p q e f = cc
 
@@ -25,6 +26,7 @@ parts a b w x e = ap (λ (t : List ℕ). t ++ x) e ∙ append_assoc a b x
 
 -- ---- pairs
 
+-- two values in a row are read in one way where each of them is
 pub same_pair : {V W : Type 0} (First : List ℕ → V → Type 0) (Second : List ℕ → W → Type 0) → IsPrefixFree First → IsPrefixFree Second → (a b x y : List ℕ) (v v' : V) (w w' : W) → IsPair First Second a v w → IsPair First Second b v' w' → a ++ x ≡ b ++ y → (a ≡ b) × (v ≡ v') × (w ≡ w')
 same_pair First Second free free' a b x y v v' w w' p q e =
     let f = regroup p.front p.back x q.front q.back y a b p.whole q.whole e in
@@ -32,6 +34,7 @@ same_pair First Second free free' a b x y v v' w w' p q e =
     let r = free' p.back q.back x y w w' p.second q.second (rest_same p.front q.front (p.back ++ x) (q.back ++ y) s.0 f) in
     (whole_same p.front p.back q.front q.back a b p.whole q.whole s.0 r.0, s.1, r.1)
 
+-- where two values stand in a row there is no fault
 pub pair_whole : {V W : Type 0} (First : List ℕ → V → Type 0) (Second : List ℕ → W → Type 0) (FirstFault SecondFault : List ℕ → Fault → Type 0) → IsPrefixFree First → ExcludesFaults First FirstFault → (a b front rest : List ℕ) (v : V) (f : Fault) → front ≡ a ++ b → First a v → ((g : Fault) → SecondFault (b ++ rest) g → ⊥) → PairFault First FirstFault SecondFault (front ++ rest) f → ⊥
 pair_whole First Second FirstFault SecondFault free whole_first a b front rest v f e s none (inl h) = whole_first a (b ++ rest) v f s (subst (λ (t : List ℕ). FirstFault t f) (parts a b front rest e) h)
 pair_whole First Second FirstFault SecondFault free whole_first a b front rest v f e s none (inr h) =
@@ -41,9 +44,11 @@ pair_whole First Second FirstFault SecondFault free whole_first a b front rest v
 
 -- ---- values that may be missing
 
+-- the index of null is not that of a value
 pub zero_one : {A : Type 0} → pos 0 ≡ pos 1 → A
 zero_one e = absurd (omega (arith, same_natural 0 1 e))
 
+-- a value that may be missing is read in one way where the value is
 pub same_option : {V : Type 0} (Spells : List ℕ → V → Type 0) → IsPrefixFree Spells → IsPrefixFree (IsOption Spells)
 same_option Spells free a b x y None None p q e = ((same_int a b x y (pos 0) (pos 0) p q e).0, refl)
 same_option Spells free a b x y None (Some w) p q e =
@@ -56,6 +61,7 @@ same_option Spells free a b x y (Some v) (Some w) p q e =
     let s = same_pair IsInt Spells same_int free a b x y (pos 1) (pos 1) v w p q e in
     (s.0, ap Some s.2)
 
+-- where a value that may be missing stands there is no fault
 pub option_whole : {V : Type 0} (Spells : List ℕ → V → Type 0) (Faults : List ℕ → Fault → Type 0) → ExcludesFaults Spells Faults → ExcludesFaults (IsOption Spells) (OptionFault Faults)
 option_whole Spells Faults whole_value front rest None f p (InIndex h) = int_whole front rest (pos 0) f p h
 option_whole Spells Faults whole_value front rest None f p (OtherIndex other more z whole i zero one e) = zero (sym (same_int front other rest more (pos 0) z p i whole).1)
@@ -83,6 +89,7 @@ tail_whole front rest v f p h =
 same_told : (r s : Request) → r.hash ≡ s.hash → r.text ≡ s.text → r.server_hash ≡ s.server_hash → r ≡ s
 same_told r s p q e = ap (λ (h : List ℕ). record { hash = h; text = r.text; server_hash = r.server_hash }) p ∙ ap (λ (t : Option (List ℕ)). record { hash = s.hash; text = t; server_hash = r.server_hash }) q ∙ ap (λ (h : List ℕ). record { hash = s.hash; text = s.text; server_hash = h }) e
 
+-- no request begins another, and each tells one thing
 pub one_request : OneRequest
 one_request a b x y r s p q e =
     let f = regroup p.hash_bytes (p.text_bytes ++ p.tail_bytes) x q.hash_bytes (q.text_bytes ++ q.tail_bytes) y a b p.whole q.whole e in
@@ -94,6 +101,7 @@ one_request a b x y r s p q e =
     let back : p.text_bytes ++ p.tail_bytes ≡ q.text_bytes ++ q.tail_bytes = whole_same p.text_bytes p.tail_bytes q.text_bytes q.tail_bytes (p.text_bytes ++ p.tail_bytes) (q.text_bytes ++ q.tail_bytes) refl refl t.0 m.0 in
     (whole_same p.hash_bytes (p.text_bytes ++ p.tail_bytes) q.hash_bytes (q.text_bytes ++ q.tail_bytes) a b p.whole q.whole h.0 back, same_told r s h.1 t.1 m.1)
 
+-- where a request stands there is no fault, whatever follows
 pub no_request_fault : NoRequestFault
 no_request_fault front rest r f p h =
     pair_whole IsFixed IsTail FixedFault (PairFault (IsOption IsText) (OptionFault TextFault) TailFault) same_fixed fixed_whole p.hash_bytes (p.text_bytes ++ p.tail_bytes) front rest r.hash f p.whole p.hash
@@ -102,16 +110,19 @@ no_request_fault front rest r f p h =
 
 -- ---- calls
 
+-- no head of a call begins another, and each has one name
 pub same_head : IsPrefixFree IsHead
 same_head a b x y v w p q e =
     let s = same_pair IsMeta IsText same_meta same_text a b x y p.0 q.0 v w p.1 q.1 e in
     (s.0, s.2)
 
+-- where a call's head stands there is no fault
 pub head_whole : ExcludesFaults IsHead HeadFault
 head_whole front rest v f p h =
     let i = p.1 in
     pair_whole IsMeta IsText MetaFault TextFault same_meta meta_whole i.front i.back front rest p.0 f i.whole i.first (λ g k. text_whole i.back rest v g i.second k) h
 
+-- the two messages have different names
 pub other_names : append ≡ append_batch → ⊥
 other_names e = cc
 
@@ -146,6 +157,7 @@ same_asks name bytes c d (Many es e i) (Strange z o m) = absurd (m e)
 same_asks name bytes c d (Many es e i) (One fs e' j) = absurd (other_names (sym e' ∙ e))
 same_asks name bytes c d (Many es e i) (Many fs e' j) = ap Takes (same_bytes IsBatch same_batch bytes es fs i j)
 
+-- bytes are one call at most
 pub one_call_lem : OneCall
 one_call_lem bytes c d p q =
     let e = sym p.whole ∙ q.whole in
@@ -173,6 +185,7 @@ parameter_whole name bytes c f (One es e i) (OfMany e' h) = other_names (sym e �
 parameter_whole name bytes c f (Many es e i) (OfOne e' h) = other_names (sym e' ∙ e)
 parameter_whole name bytes c f (Many es e i) (OfMany e' h) = all_whole IsBatch BatchFault same_batch batch_whole bytes es f i h
 
+-- bytes that are a call have no fault
 pub no_call_fault : NoCallFault
 no_call_fault bytes c f p (InHead h) = head_whole p.head p.rest p.name f p.named (subst (λ (t : List ℕ). HeadFault t f) p.whole h)
 no_call_fault bytes c f p (InParameter head rest name inner whole named h e) =

@@ -132,6 +132,7 @@ one_spelled : (first : Bool) → HasOneFault (SpelledFault first)
 one_spelled true bytes f g h k = one_of_pair IsAccord AccordFault ToldFault same_accord accord_whole one_accord one_told bytes f g h k
 one_spelled false bytes f g h k = one_told bytes f g h k
 
+-- a reply is read in one way
 pub one_reply_lem : OneReply
 one_reply_lem first bytes (Ok s) (Ok t) p q = ap Ok (same_reply first bytes bytes [] [] s t p q refl).1
 one_reply_lem first bytes (Ok s) (Err at) p q = absurd (all_whole (IsReply first) (SpelledFault first) (same_reply first) (reply_excludes first) bytes s q.0 p q.1)
@@ -140,6 +141,7 @@ one_reply_lem first bytes (Err at) (Err other) p q =
     let same = one_whole (IsReply first) (SpelledFault first) (same_reply first) (reply_excludes first) (one_spelled first) bytes p.0 q.0 p.1 q.1 in
     ap Err (p.2 ∙ ap place same ∙ sym q.2)
 
+-- what a server of this agent answers is read as its status
 pub replies_are_read : RepliesAreRead
 replies_are_read s = (
   (told_of Both, record { front = _; back = response s; whole = refl; first = (greetings_are_spelled Both, λ e. absurd cc); second = responses_are_spelled s }),

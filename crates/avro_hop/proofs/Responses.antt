@@ -49,16 +49,20 @@ each_ascii [] e i = omega arith
 each_ascii (b ∷ bytes) e zero = ltb-true b 128 (both (ltb b 128) (are_ascii bytes) e).0
 each_ascii (b ∷ bytes) e (suc i) = each_ascii bytes (both (ltb b 128) (are_ascii bytes) e).1 i
 
+-- bytes that are all ASCII are UTF-8
 pub ascii_text : (bytes : List ℕ) → are_ascii bytes ≡ true → IsUtf8 bytes
 ascii_text bytes e = IsUtf8-from_ascii bytes (each_ascii bytes e)
 
+-- this agent's protocol text is UTF-8
 pub own_utf8 : IsUtf8 own_text
 unfolding own_text
 own_utf8 = ascii_text _ refl
 
+-- null spells a value that is missing
 pub null_spelled : {V : Type 0} (Spells : List ℕ → V → Type 0) → IsOption Spells written_null None
 null_spelled Spells = small_int 0 (omega arith)
 
+-- an index and a value spell a value that is there
 pub some_spelled : {V : Type 0} (Spells : List ℕ → V → Type 0) (bytes : List ℕ) (v : V) → Spells bytes v → IsOption Spells (written_some bytes) (Some v)
 some_spelled Spells bytes v s = record { front = written_number (pos 1); back = bytes; whole = refl; first = small_int 1 (omega arith); second = s }
 
@@ -81,6 +85,7 @@ own_told found = record {
   meta_at = null_spelled IsMeta;
 }
 
+-- what is answered to a handshake is spelled as what it tells
 pub greetings_are_spelled : GreetingsAreSpelled
 greetings_are_spelled Both = record {
   index_bytes = written_number (pos 0);
@@ -97,6 +102,7 @@ greetings_are_spelled Both = record {
 greetings_are_spelled Client = own_told Client
 greetings_are_spelled Stranger = own_told Stranger
 
+-- an empty map spells no metadata
 pub no_meta : IsMeta (written_map []) []
 no_meta = let e = groups_last 9 0 (omega arith) in Close (0 ∷ []) (Plain (subst (λ (t : List ℕ). IsLong t (pos 0)) e (small_long 0 (omega arith))))
 
@@ -105,6 +111,7 @@ few status.Ok = omega arith
 few status.Failed = omega arith
 few status.Unknown = omega arith
 
+-- what is answered to a call is spelled as its status
 pub responses_are_spelled : ResponsesAreSpelled
 responses_are_spelled s = (
   [],
@@ -123,6 +130,7 @@ responses_are_spelled s = (
   },
 )
 
+-- the answer to an unknown message is spelled as an error
 pub unknown_is_spelled : UnknownIsSpelled
 unknown_is_spelled = (
   [],
@@ -149,6 +157,7 @@ unknown_is_spelled = (
 
 -- ---- none begins another
 
+-- matches of the same index are the same
 pub same_match : (found other : Match) → pos (match_index found) ≡ pos (match_index other) → found ≡ other
 same_match Both Both e = refl
 same_match Both Client e = absurd (omega (arith, same_natural 0 1 e))
@@ -163,6 +172,7 @@ same_match Stranger Stranger e = refl
 same_greeting : (g h : Greeting) → g.found ≡ h.found → g.text ≡ h.text → g.hash ≡ h.hash → g ≡ h
 same_greeting g h p q e = ap (λ (f : Match). record { found = f; text = g.text; hash = g.hash }) p ∙ ap (λ (t : Option (List ℕ)). record { found = h.found; text = t; hash = g.hash }) q ∙ ap (λ (k : Option (List ℕ)). record { found = h.found; text = h.text; hash = k }) e
 
+-- no answer to a handshake begins another, and each tells one thing
 pub one_greeting : OneGreeting
 one_greeting a b x y g h p q e =
     let f = regroup p.index_bytes (p.text_bytes ++ (p.hash_bytes ++ p.meta_bytes)) x q.index_bytes (q.text_bytes ++ (q.hash_bytes ++ q.meta_bytes)) y a b p.whole q.whole e in
@@ -179,6 +189,7 @@ one_greeting a b x y g h p q e =
     let behind = whole_same p.text_bytes (p.hash_bytes ++ p.meta_bytes) q.text_bytes (q.hash_bytes ++ q.meta_bytes) (p.text_bytes ++ (p.hash_bytes ++ p.meta_bytes)) (q.text_bytes ++ (q.hash_bytes ++ q.meta_bytes)) refl refl t.0 last in
     (whole_same p.index_bytes (p.text_bytes ++ (p.hash_bytes ++ p.meta_bytes)) q.index_bytes (q.text_bytes ++ (q.hash_bytes ++ q.meta_bytes)) a b p.whole q.whole i.0 behind, same_greeting g h (same_match g.found h.found i.1) t.1 k.1)
 
+-- statuses of the same index are the same
 pub same_status : (s t : Status) → pos (status_index s) ≡ pos (status_index t) → s ≡ t
 same_status status.Ok status.Ok e = refl
 same_status status.Ok status.Failed e = absurd (omega (arith, same_natural 0 1 e))
@@ -214,6 +225,7 @@ same_outcome a b x y (Error s) (Error t) p q e =
     let r = same_pair IsBoolean IsError same_boolean same_error a b x y true true s t p q e in
     (r.0, ap Error r.2)
 
+-- no response begins another, and each tells one outcome
 pub one_response : OneResponse
 one_response a b x y v w p q e =
     let s = same_pair IsMeta IsOutcome same_meta same_outcome a b x y p.0 q.0 v w p.1 q.1 e in

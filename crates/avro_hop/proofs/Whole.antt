@@ -24,6 +24,7 @@ part_all bytes at end past = take_all (end - at) (drop at bytes) (omega (arith, 
 abbrev pub IsFaultAt : (List ℕ → Fault → Type 0) → List ℕ → ℕ → ℕ → Type 0
 IsFaultAt Faults bytes at field = (f : Fault) × Faults (drop at bytes) f × (field ≡ at + place f)
 
+-- a byte that is left after a value is at fault
 pub trailing : {V : Type 0} (Spells : List ℕ → V → Type 0) (Faults : List ℕ → Fault → Type 0) (bytes : List ℕ) (at end : ℕ) (v : V) → IsPart bytes at end → end < length bytes → Spells (part bytes at end) v → IsFaultAt (WholeFault Spells Faults) bytes at end
 trailing Spells Faults bytes at end v p before s =
     let len = length-part bytes at end p in
@@ -68,6 +69,7 @@ choice b n = cond b (Some n) None
 one_large : (event : Content) → max_size < size event → IsSome (first_large (event ∷ []))
 one_large event large = some_large (first_large (event ∷ [])) (size event) (ap (λ (b : Bool). choice b (size event)) (lt-ltb max_size (size event) large))
 
+-- what a call of one event comes to where its event was refused
 pub event_refused : (bytes : List ℕ) (at : ℕ) (e : ValueRefused) → ReadsEvent bytes at (Err e) → ReadsAll IsOne (WholeFault IsEvent EventFault) bytes at (Err (unread_of (length bytes) e))
 event_refused bytes at (Short field need) r = lacks_whole IsEvent EventFault bytes at field need r
 event_refused bytes at (Bad field) r = wrong_whole IsEvent EventFault bytes at field r
@@ -77,6 +79,7 @@ event_refused bytes at (TooLarge n end) r =
     (λ past. (r.0 ∷ [], (r.0, subst (λ (x : List ℕ). IsEvent x r.0) (part_all bytes at end past) r.2, refl), one_large r.0 (subst (λ (k : ℕ). max_size < k) r.3 r.4)))
 event_refused bytes at NoMemory r = tt
 
+-- what a call of a batch comes to where its events were refused
 pub batch_refused : (bytes : List ℕ) (at : ℕ) (e : ValueRefused) → ReadsBatch bytes at (Err e) → ReadsAll IsBatch (WholeFault IsBatch BatchFault) bytes at (Err (unread_of (length bytes) e))
 batch_refused bytes at (Short field need) r = lacks_whole IsBatch BatchFault bytes at field need r
 batch_refused bytes at (Bad field) r = wrong_whole IsBatch BatchFault bytes at field r

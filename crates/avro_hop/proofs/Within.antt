@@ -166,11 +166,13 @@ within_found passes inner d (Itself ms) p = first_true (passes (object ms)) (has
 within_found passes inner d (InItem e f ds i w) p = item_found passes f ds i (within_found passes e f w p)
 within_found passes inner d (InPart e f ms i w) p = second_true (passes (object ms)) (has_type_in_members passes ms) (part_found passes f ms i (within_found passes e f w p))
 
+-- a type passes exactly where some object within it does, at any depth
 pub types_are_found : TypesAreFound
 types_are_found passes d = (found passes d, λ inner w p. within_found passes inner d w p)
 
 field_of : (passes : Data → Bool) (fields : Data) → FieldFound passes fields → (d : Data) × IsFieldType d fields × (has_type passes d ≡ true)
 field_of passes fields f = (f.0, f.1, within_found passes f.2.0 f.0 f.2.1 f.2.2)
 
+-- fields or parameters pass exactly where the type of one of them does
 pub field_types_are_found : FieldTypesAreFound
 field_types_are_found passes fields = (λ h. field_of passes fields (found_field passes fields h), λ d t h. field_found passes d fields t h)

@@ -309,6 +309,7 @@ module _ {D L : Type 0} (links : D → Option LinksTold) (troubles : D → ℕ) 
             },
           )
 
+  -- over a sink's deliveries each link came back, and their batches in order are those answered OK
   pub all_requested : (done : List Delivery) (s t : SinkLinks D L) → s.opened ≡ None → links s.dialer ≡ Some no_links → AllDeliver links troubles told faults done s t
       → (l : LinksTold) × (closed_links links told t.dialer t.opened ≡ Some l) × Requested done l
   all_requested done s t none fresh all = closed done t (steps [] done s t (idle [] s none no_links fresh [] tt refl refl) all)

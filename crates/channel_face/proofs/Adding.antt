@@ -10,6 +10,7 @@ by_pass-append : (pass : ℕ) (x y : List Said) → by_pass pass (x ++ y) ≡ by
 by_pass-append pass [] y = refl
 by_pass-append pass (s ∷ x) y = ap (λ (l : List Step). record { pass = pass; call = s.call; moment = s.moment } ∷ l) (by_pass-append pass x y)
 
+-- what gains some calls, and then others, gains both in a row
 pub adds_then : (a b c : Opening → List Step → Type 0) (x y : List Said) → Adds a b x → Adds b c y → Adds a c (x ++ y)
 adds_then a b c x y f g start h pass stands =
     subst (c start) (append_assoc h (by_pass pass x) (by_pass pass y) ∙ ap (λ (l : List Step). h ++ l) (sym (by_pass-append pass x y))) (g start (h ++ by_pass pass x) pass (f start h pass stands))
@@ -19,10 +20,12 @@ pub run-push : (tells : _) (s : State) (h : List Step) (step : Step) → IsRun t
 run-push tells s [] step run may = (may, tt)
 run-push tells s (x ∷ h) step run may = (run.0, run-push tells (after s x.call) h step run.1 may)
 
+-- the state after one call more
 pub state-push : (s : State) (h : List Step) (step : Step) → state_after s (h ++ step ∷ []) ≡ after (state_after s h) step.call
 state-push s [] step = refl
 state-push s (x ∷ h) step = state-push (after s x.call) h step
 
+-- the state after two histories, one behind the other
 pub state-append : (s : State) (x y : List Step) → state_after s (x ++ y) ≡ state_after (state_after s x) y
 state-append s [] y = refl
 state-append s (step ∷ x) y = state-append (after s step.call) x y
@@ -40,6 +43,7 @@ adds old call new moves start h pass stands =
     let so : state_after (opening start) (h ++ step ∷ []) ≡ new = state-push (opening start) h step ∙ (ap (λ (s : State). after s call) stands.1 ∙ sym moves.state) in
     (run-push true (opening start) h step stands.0 may, so, stands.2)
 
+-- what is true of the state that a channel stands for, it shows
 pub shows : (s : State) (P : State → Type 0) → P s → Shows (StandsFor s) P
 shows s P is start h stands = subst P (sym stands.1) is
 
@@ -51,8 +55,10 @@ adds_counted old t call new t' moves is start h pass stands =
     let same : counted (state_after (opening start) h) call (tally (opening start) h) ≡ counted old call t = ap (λ (s : State). counted s call (tally (opening start) h)) stands.0.1 ∙ ap (λ (u : Tally). counted old call u) stands.1 in
     (adds old call new moves start h pass stands.0, count ∙ (same ∙ sym is))
 
+-- it shows that also where the calls are counted
 pub shows_counted : (s : State) (t : Tally) (P : State → Type 0) → P s → Shows (StandsCounted s t) P
 shows_counted s t P is start h stands = subst P (sym stands.0.1) is
 
+-- counts that were made of a state and its tally are those of its history
 pub shows_counts : (s : State) (t : Tally) (counts : Counts) → counts ≡ counts_with t s → (start : Opening) (h : List Step) → StandsCounted s t start h → counts ≡ counts_of start h
 shows_counts s t counts is start h stands = is ∙ (sym (ap (λ (v : State). counts_with t v) stands.0.1) ∙ sym (ap (λ (u : Tally). counts_with u (state_after (opening start) h)) stands.1))

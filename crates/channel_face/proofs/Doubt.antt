@@ -37,6 +37,7 @@ stage_breaks_none number (Some (Takes (n ∷ numbers))) s = refl
 pub put_staged_whole : (tells : Bool) (token : Token) (ticket : Ticket) (s : State) → Admits tells s (StagePut token (Ok ticket)) → (after s (StagePut token (Ok ticket))).broken ≡ false
 put_staged_whole tells token ticket s may = stage_breaks_none token.number (entry_of token.number s.opened) s ∙ put_whole s (puts_of s token) may.0
 
+-- also where what it staged are takes
 pub take_staged_whole : (tells : Bool) (token : Token) (ticket : Ticket) (s : State) → Admits tells s (StageTake token (Ok ticket)) → (after s (StageTake token (Ok ticket))).broken ≡ false
 take_staged_whole tells token ticket s may = stage_breaks_none token.number (entry_of token.number s.opened) s ∙ take_whole s (takes_of s token) may.0
 

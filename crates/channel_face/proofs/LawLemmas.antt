@@ -20,6 +20,7 @@ use Rattle.channel_face.proofs.Numbers.{times-append, number_of-append, number_h
 use Rattle.channel_face.proofs.Opened.{times-cons, times-take}
 use Rattle.channel_face.proofs.Sound.{sound_after}
 
+-- a channel that opens with a base is sound
 pub sound_opening : (o : Opening) → IsBase o.base → IsSoundState (opening o)
 sound_opening o is = record { rising = rising_base o.base is; held = λ n. omega arith; numbered = tt; staged = tt }
 
@@ -42,11 +43,13 @@ left-append base j k earlier =
     let untaken : without tj back ≡ back = without_above tj (base.first + length pj) pk earlier in
     rw (taken_numbers-append j k, put_events-append j k, items, without-both tj tk (front ++ back), without-append tj front back, untaken) refl
 
+-- two journals in a row lead where the second leads after the first
 pub after-append : (base : Base) (j k : List Entry) → TakesEarlier base j → after_journal base (j ++ k) ≡ after_journal (after_journal base j) k
 after-append base j k earlier =
     same_base (after_journal base (j ++ k)) (after_journal (after_journal base j) k) (left-append base j k earlier)
     (let puts : length (put_events (j ++ k)) ≡ length (put_events j) + length (put_events k) = ap (λ (l : List Content). length l) (put_events-append j k) ∙ length-append (put_events j) (put_events k) in omega (arith, puts))
 
+-- an empty journal leaves the base as it is
 pub after_none : (base : Base) → after_journal base [] ≡ base
 after_none base = same_base (after_journal base []) base (without_none (base.items ++ []) ∙ append-nil base.items) (omega arith)
 
@@ -81,6 +84,7 @@ keeps_none s new same = record { leads = same ∙ sym (after_none (base_of s)); 
 fits_head : (base : Base) (numbers : List ℕ) (rest : List Entry) → ((n : ℕ) → times n (taken_numbers (Takes numbers ∷ rest)) ≤ number_of n base.items) → (n : ℕ) → times n numbers ≤ number_of n base.items
 fits_head base numbers rest fits n = omega (arith, fits n, times-append n numbers (taken_numbers rest))
 
+-- a journal is well formed where it takes each number no more often than the base has it
 pub well_formed : (base : Base) (j : List Entry) → Rising 0 base.items base.first → ((n : ℕ) → times n (taken_numbers j) ≤ number_of n base.items) → IsWellFormed base j
 well_formed base [] rising fits = tt
 well_formed base (Puts events ∷ j) rising fits =
@@ -189,6 +193,7 @@ keeps s (Prune reply) sound front = keeps_none s s refl
 keeps s (Reopen (Ok r)) sound front = keeps_reopen s r.kept r.txn sound front
 keeps s (Reopen (Err e)) sound front = keeps_none s (after s (Reopen (Err e))) refl
 
+-- what a run leaves is what its journal leaves of the base it began with
 pub stands_for : (tells : Bool) (s : State) (h : List Step) → IsSoundState s → IsRun tells s h → ReadsNone h → base_of (state_after s h) ≡ after_journal (base_of s) (journal s h)
 stands_for tells s [] sound run none = sym (after_none (base_of s))
 stands_for tells s (step ∷ h) sound run none =
@@ -217,6 +222,7 @@ full-append : (j k : List Entry) → IsJournal j → IsJournal k → IsJournal (
 full-append [] k a b = b
 full-append (e ∷ j) k a b = (a.0, full-append j k a.1 b)
 
+-- what a run settled and staged is a well-formed journal without empty entries
 pub commits_formed : (tells : Bool) (s : State) (h : List Step) → IsSoundState s → IsRun tells s h → ReadsNone h → IsWellFormed (base_of s) (commits s h) × IsJournal (commits s h)
 commits_formed tells s [] sound run none = (well_formed (base_of s) s.staged sound.rising (λ n. omega (arith, sound.held n)), sound.staged)
 commits_formed tells s (step ∷ h) sound run none =
@@ -235,6 +241,7 @@ above : (m low : ℕ) (items : Items) (first : ℕ) → m < low → Rising low i
 above m low [] first less rising = tt
 above m low (item ∷ items) first less rising = (omega (arith, less, rising.0), above m (item.0 + 1) items first (omega (arith, less, rising.0)) rising.1)
 
+-- of the events that no transaction holds, the first has the least number
 pub least_first : (s : State) (item : ℕ × Content) (rest : Items) → IsBase (base_of s) → free s ≡ item ∷ rest → AllByRecursion (λ (other : ℕ × Content). item.0 < other.0) rest
 least_first s item rest is free_is =
     let rising : Rising 0 (free s) s.first = rising-without 0 (taken_numbers (entries s.opened) ++ taken_numbers s.staged) s.items s.first (rising_base (base_of s) is) in

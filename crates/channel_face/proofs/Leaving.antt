@@ -7,6 +7,7 @@ use Rattle.channel_face.specs.Machine.{State, after}
 use Rattle.channel_face.specs.History.{Opening, opening, Step, state_after, journal, kept_by, MayLeave}
 use Rattle.channel_face.proofs.Adding.{state-push}
 
+-- one call more adds to the journal what it settled or kept
 pub journal-push : (s : State) (h : List Step) (step : Step) → journal s (h ++ step ∷ []) ≡ journal s h ++ kept_by (state_after s h) step.call
 journal-push s [] step = append-nil (kept_by s step.call)
 journal-push s (x ∷ h) step = ap (λ (l : List Entry). kept_by s x.call ++ l) (journal-push (after s x.call) h step) ∙ sym (append_assoc (kept_by s x.call) (journal (after s x.call) h) (kept_by (state_after (after s x.call) h) step.call))

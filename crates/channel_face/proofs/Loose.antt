@@ -40,6 +40,7 @@ loose_reopen s (Err (OpenNo.OverCapacity n)) may = may
 loose_reopen s (Err (OpenNo.Spent counter)) may = may
 loose_reopen s (Err OpenNo.NoMemory) may = may
 
+-- a reply that is allowed over a disk that shows its contents is allowed over any
 pub loose : (s : State) (call : Call) → Admits true s call → Admits false s call
 loose s (BeginPut reply) may = may
 loose s (BeginTake reply) may = may

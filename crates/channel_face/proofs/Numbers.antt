@@ -9,6 +9,7 @@ use Rattle.event_core.specs.declared.journal.Entry.{Entry}
 use Rattle.event_core.specs.declared.journal.Entry.TheVariants.{Puts, Takes}
 use Rattle.channel_face.specs.Sound.{Items, one_if, times, number_of, Rising}
 
+-- equal numbers count as one
 pub same_number : (a b : ℕ) → a ≡ b → one_if (a == b) ≡ 1
 same_number a b same = from (eqb_tells a b)
   where
@@ -16,6 +17,7 @@ same_number a b same = from (eqb_tells a b)
     from (inl is) = ap one_if is.0
     from (inr isnt) = absurd (isnt.1 same)
 
+-- different numbers count as none
 pub other_number : (a b : ℕ) → a ≢ b → one_if (a == b) ≡ 0
 other_number a b other = from (eqb_tells a b)
   where
@@ -23,14 +25,17 @@ other_number a b other = from (eqb_tells a b)
     from (inl is) = absurd (other is.1)
     from (inr isnt) = ap one_if isnt.0
 
+-- how often a number stands in two lists
 pub times-append : (n : ℕ) (xs ys : List ℕ) → times n (xs ++ ys) ≡ times n xs + times n ys
 times-append n [] ys = omega arith
 times-append n (x ∷ xs) ys = omega (arith, times-append n xs ys)
 
+-- how many items of two lists have a number
 pub number_of-append : (n : ℕ) (xs ys : Items) → number_of n (xs ++ ys) ≡ number_of n xs + number_of n ys
 number_of-append n [] ys = omega arith
 number_of-append n (x ∷ xs) ys = omega (arith, number_of-append n xs ys)
 
+-- a number is either found in a list and counted, or neither
 pub among_times : (n : ℕ) (xs : List ℕ) → ((is_among xs n ≡ true) × (1 ≤ times n xs)) ⊎ ((is_among xs n ≡ false) × (times n xs ≡ 0))
 among_times n [] = inr (refl, refl)
 among_times n (x ∷ xs) = from (x == n) refl (among_times n xs)
@@ -41,6 +46,7 @@ among_times n (x ∷ xs) = from (x == n) refl (among_times n xs)
     from false is (inl more) = inl (rw is more.0, rw is (omega (arith, more.1)))
     from false is (inr none) = inr (rw is none.0, rw is (omega (arith, none.1)))
 
+-- without some numbers: none of those is left, and the others are counted as before
 pub number_of-without : (n : ℕ) (xs : List ℕ) (items : Items) → number_of n (without xs items) ≡ cond (is_among xs n) 0 (number_of n items)
 number_of-without n xs [] = from (is_among xs n)
   where
@@ -72,24 +78,29 @@ number_of-without n xs (item ∷ items) = by_test (is_among xs item.0) refl (eqb
     by_test false is (inl here) so = rw (is, here.0) (kept (is_among xs n) (number_of n (without xs items)) (number_of n items) so (ap (is_among xs) (sym here.1) ∙ is))
     by_test false is (inr there) so = rw (is, there.0) (none (is_among xs n) (number_of n (without xs items)) (number_of n items) so)
 
+-- numbers that rise from here rise from below too
 pub rising_from : (low low' : ℕ) (items : Items) (first : ℕ) → low' ≤ low → Rising low items first → Rising low' items first
 rising_from low low' [] first less rising = omega (arith, less, rising)
 rising_from low low' (item ∷ items) first less rising = (omega (arith, less, rising.0), rising.1)
 
+-- the lower bound of rising numbers is not above the upper one
 pub rising_within : (low : ℕ) (items : Items) (first : ℕ) → Rising low items first → low ≤ first
 rising_within low [] first rising = rising
 rising_within low (item ∷ items) first rising = omega (arith, rising.0, rising_within (item.0 + 1) items first rising.1)
 
+-- rising numbers, and behind them higher ones that rise
 pub rising-append : (low : ℕ) (items more : Items) (first next : ℕ) → Rising low items first → Rising first more next → Rising low (items ++ more) next
 rising-append low [] more first next rising later = rising_from first low more next rising later
 rising-append low (item ∷ items) more first next rising later = (rising.0, rising-append (item.0 + 1) items more first next rising.1 later)
 
+-- events that are numbered one after another rise
 pub rising-numbered : (first : ℕ) (events : List Content) → Rising first (numbered first events) (first + length events)
 rising-numbered first [] = omega arith
 rising-numbered first (event ∷ events) =
     let further : first + 1 + length events ≡ first + length (event ∷ events) = omega arith in
     (omega arith, subst (λ (n : ℕ). Rising (first + 1) (numbered (first + 1) events) n) further (rising-numbered (first + 1) events))
 
+-- numbers still rise where some are taken out
 pub rising-without : (low : ℕ) (xs : List ℕ) (items : Items) (first : ℕ) → Rising low items first → Rising low (without xs items) first
 rising-without low xs [] first rising = rising
 rising-without low xs (item ∷ items) first rising = by_test (is_among xs item.0) (rising-without (item.0 + 1) xs items first rising.1)
@@ -98,11 +109,13 @@ rising-without low xs (item ∷ items) first rising = by_test (is_among xs item.
     by_test true so = rising_from (item.0 + 1) low (without xs items) first (omega (arith, rising.0)) so
     by_test false so = (rising.0, so)
 
+-- what a journal leaves of a base still rises
 pub rising-left : (base : Base) (journal : List Entry) → Rising 0 base.items base.first → Rising 0 (left base journal) (next base journal)
 rising-left base journal rising =
     rising-without 0 (taken_numbers journal) (base.items ++ numbered base.first (put_events journal)) (next base journal)
     (rising-append 0 base.items (numbered base.first (put_events journal)) base.first (next base journal) rising (rising-numbered base.first (put_events journal)))
 
+-- numbers that rise have none below the first bound
 pub number_low : (n low : ℕ) (items : Items) (first : ℕ) → Rising low items first → n < low → number_of n items ≡ 0
 number_low n low [] first rising less = refl
 number_low n low (item ∷ items) first rising less =
@@ -110,12 +123,14 @@ number_low n low (item ∷ items) first rising less =
     let rest : number_of n items ≡ 0 = number_low n (item.0 + 1) items first rising.1 (omega (arith, rising.0, less)) in
     omega (arith, other_number item.0 n other, rest)
 
+-- numbers that rise have none from the second bound on
 pub number_high : (n low : ℕ) (items : Items) (first : ℕ) → Rising low items first → first ≤ n → number_of n items ≡ 0
 number_high n low [] first rising more = refl
 number_high n low (item ∷ items) first rising more =
     let other : item.0 ≢ n = omega (arith, rising_within (item.0 + 1) items first rising.1, more) in
     omega (arith, other_number item.0 n other, number_high n (item.0 + 1) items first rising.1 more)
 
+-- numbers that rise have each at most once
 pub number_once : (n low : ℕ) (items : Items) (first : ℕ) → Rising low items first → number_of n items ≤ 1
 number_once n low [] first rising = omega arith
 number_once n low (item ∷ items) first rising = from (eqb_tells item.0 n) (number_once n (item.0 + 1) items first rising.1)
@@ -153,6 +168,7 @@ to_rising low (item ∷ items) first less head increasing below =
     low_head [] increasing = tt
     low_head (second ∷ items) increasing = let step : item.0 < second.0 = increasing 0 (omega arith) in omega (arith, step)
 
+-- the items of a base rise
 pub rising_base : (base : Base) → IsBase base → Rising 0 base.items base.first
 rising_base base is = to_rising 0 base.items base.first (omega arith) (low_head base.items) is.rising is.below
   where
@@ -172,11 +188,13 @@ increases low (item ∷ items) first rising = more_increases item items (low_hea
     low_head [] rising = tt
     low_head (second ∷ items) rising = rising.0
 
+-- where its items rise, it is a base
 pub base_rising : (base : Base) → Rising 0 base.items base.first → IsBase base
 base_rising base rising = record { rising = increases 0 base.items base.first rising; below = all_below 0 base.items base.first rising }
 
 -- what is left without some numbers
 
+-- numbers are taken out of two lists one by one
 pub without-append : (xs : List ℕ) (a b : Items) → without xs (a ++ b) ≡ without xs a ++ without xs b
 without-append xs [] b = refl
 without-append xs (item ∷ a) b = by_test (is_among xs item.0) (without-append xs a b)
@@ -186,6 +204,7 @@ without-append xs (item ∷ a) b = by_test (is_among xs item.0) (without-append 
     by_test true so = so
     by_test false so = ap (λ (l : Items). item ∷ l) so
 
+-- a number is among two lists where it is among one of them
 pub or_among : (xs ys : List ℕ) (n : ℕ) → is_among (xs ++ ys) n ≡ (is_among xs n || is_among ys n)
 or_among [] ys n = refl
 or_among (x ∷ xs) ys n = ap (λ (t : Bool). (x == n) || t) (or_among xs ys n) ∙ sym (or_assoc (x == n) (is_among xs n) (is_among ys n))
@@ -194,6 +213,7 @@ or_among (x ∷ xs) ys n = ap (λ (t : Bool). (x == n) || t) (or_among xs ys n) 
     or_assoc true b c = refl
     or_assoc false b c = refl
 
+-- two lists of numbers are taken out one after the other
 pub without-both : (xs ys : List ℕ) (items : Items) → without (xs ++ ys) items ≡ without ys (without xs items)
 without-both xs ys [] = refl
 without-both xs ys (item ∷ items) = by_test (is_among xs item.0) (is_among ys item.0) refl (or_among xs ys item.0) (without-both xs ys items)
@@ -204,10 +224,12 @@ without-both xs ys (item ∷ items) = by_test (is_among xs item.0) (is_among ys 
     by_test false true is both so = rw (both, is) so
     by_test false false is both so = rw (both, is) (ap (λ (l : Items). item ∷ l) so)
 
+-- where no numbers are taken out, all items are left
 pub without_none : (items : Items) → without [] items ≡ items
 without_none [] = refl
 without_none (item ∷ items) = ap (λ (l : Items). item ∷ l) (without_none items)
 
+-- numbers that are all lower are no numbers of new events, so all of those are left
 pub without_above : (xs : List ℕ) (first : ℕ) (events : List Content) → ((n : ℕ) → first ≤ n → times n xs ≡ 0) → without xs (numbered first events) ≡ numbered first events
 without_above xs first [] none = refl
 without_above xs first (event ∷ events) none = by_test (among_times first xs) (without_above xs (first + 1) events (λ n more. none n (omega (arith, more))))
@@ -217,16 +239,19 @@ without_above xs first (event ∷ events) none = by_test (among_times first xs) 
     by_test (inl is) so = absurd (omega (arith, is.1, none first (omega arith)))
     by_test (inr is) so = rw is.0 (ap (λ (l : Items). (first, event) ∷ l) so)
 
+-- two lists of events are numbered one behind the other
 pub numbered-append : (first : ℕ) (a b : List Content) → numbered first (a ++ b) ≡ numbered first a ++ numbered (first + length a) b
 numbered-append first [] b = ap (λ (n : ℕ). numbered n b) (omega arith)
 numbered-append first (e ∷ a) b =
     ap (λ (l : Items). (first, e) ∷ l) (numbered-append (first + 1) a b ∙ ap (λ (n : ℕ). numbered (first + 1) a ++ numbered n b) (omega arith))
 
+-- what two journals put, in order
 pub put_events-append : (a b : List Entry) → put_events (a ++ b) ≡ put_events a ++ put_events b
 put_events-append [] b = refl
 put_events-append (Puts events ∷ a) b = ap (λ (l : List Content). events ++ l) (put_events-append a b) ∙ sym (append_assoc events (put_events a) (put_events b))
 put_events-append (Takes numbers ∷ a) b = put_events-append a b
 
+-- the numbers that two journals take, in order
 pub taken_numbers-append : (a b : List Entry) → taken_numbers (a ++ b) ≡ taken_numbers a ++ taken_numbers b
 taken_numbers-append [] b = refl
 taken_numbers-append (Puts events ∷ a) b = taken_numbers-append a b
@@ -257,6 +282,7 @@ number_of-without_one x n items = from (eqb_tells x n)
     from (inl is) = inl (is.1, same_number x n is.1, number_of-without n (x ∷ []) items ∙ ap (λ (t : Bool). cond (t || false) 0 (number_of n items)) is.0)
     from (inr isnt) = inr (other_number x n isnt.1, number_of-without n (x ∷ []) items ∙ ap (λ (t : Bool). cond (t || false) 0 (number_of n items)) isnt.0)
 
+-- takes that hold no item more often than it is there are of different items
 pub distinct : (xs : List ℕ) (low : ℕ) (items : Items) (first : ℕ) → Rising low items first → ((n : ℕ) → times n xs ≤ number_of n items) → AreDistinctOf items xs
 distinct [] low items first rising fits = tt
 distinct (x ∷ xs) low items first rising fits = (
@@ -268,6 +294,7 @@ distinct (x ∷ xs) low items first rising fits = (
     rest n (inl here) = omega (arith, fits n, here.1, number_once n low items first rising)
     rest n (inr there) = omega (arith, fits n, there.0, there.1)
 
+-- takes of different items hold no item more often than it is there
 pub distinct_times : (xs : List ℕ) (low : ℕ) (items : Items) (first : ℕ) → Rising low items first → AreDistinctOf items xs → (n : ℕ) → times n xs ≤ number_of n items
 distinct_times [] low items first rising are n = omega arith
 distinct_times (x ∷ xs) low items first rising are n = from (number_of-without_one x n items) (distinct_times xs low (without (x ∷ []) items) first (rising-without low (x ∷ []) items first rising) are.1 n)

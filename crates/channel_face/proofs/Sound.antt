@@ -30,6 +30,7 @@ with_opened s opened txn sound numbers fewer = record {
   staged = sound.staged;
 }
 
+-- a channel that broke is sound
 pub sound_broken : (s : State) → IsSoundState s → IsSoundState (broken_state s)
 sound_broken s sound = record { rising = sound.rising; held = sound.held; numbered = sound.numbered; staged = sound.staged }
 
@@ -46,6 +47,7 @@ still_held s n sound = from (among_times n (taken_numbers s.staged))
     from (inl taken) = omega (arith, sound.held n, taken.1, number_once n 0 s.items s.first sound.rising)
     from (inr isnt) = rw (is, isnt.0) (omega (arith, sound.held n, number_of-append n s.items more))
 
+-- a channel whose staged entries were settled is sound
 pub sound_settle : (s : State) → IsSoundState s → IsSoundState (settle s)
 sound_settle s sound = record {
   rising = rising-left (base_of s) s.staged sound.rising;
@@ -54,10 +56,12 @@ sound_settle s sound = record {
   staged = tt;
 }
 
+-- also where they were settled or not
 pub sound_settle_if : (b : Bool) (s : State) → IsSoundState s → IsSoundState (settle_if b s)
 sound_settle_if true s sound = sound_settle s sound
 sound_settle_if false s sound = sound
 
+-- a channel that closed a transaction is sound
 pub sound_close : (number : ℕ) (s : State) → IsSoundState s → IsSoundState (close number s)
 sound_close number s sound = with_opened s (without_entry number s.opened) s.txn sound (numbered-without s.txn number s.opened sound.numbered) (λ n. opened-fewer n number s.opened)
 
@@ -73,6 +77,7 @@ staged_more number entry s sound is some = record {
   staged = journal-push s.staged entry sound.staged some;
 }
 
+-- a channel that staged what a transaction held is sound
 pub sound_stage : (number : ℕ) (entry : Option Entry) (s : State) → IsSoundState s → entry_of number s.opened ≡ entry → IsSoundState (stage number entry s)
 sound_stage number None s sound is = sound
 sound_stage number (Some (Puts [])) s sound is = sound_close number s sound

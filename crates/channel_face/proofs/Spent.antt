@@ -31,6 +31,7 @@ no_begin s is = by_tests s.broken (nat_le 1024 (length s.opened)) (nat_le (2 ^ 6
     by_tests false false true h = cc
     by_tests false false false h = cc
 
+-- the machine refuses no begin because no more calls are counted
 pub begin_spares : (s : State) (reply : Result Token BeginRefused) → AdmitsBegin s reply → is_spent_begin reply ≡ false
 begin_spares s (Ok token) may = refl
 begin_spares s (Err Begin.Broken) may = refl
@@ -43,6 +44,7 @@ begin_spares s (Err (Begin.Spent Check)) may = refl
 begin_spares s (Err (Begin.Spent Life)) may = refl
 begin_spares s (Err (Begin.Spent Calls)) may = absurd (no_begin s may)
 
+-- nor is a put
 pub put_spares : (s : State) (puts : Option (List Content)) (event : Content) (reply : Result PutDone PutRefused) → AdmitsPut s puts event reply → is_spent_put reply ≡ false
 put_spares s puts event (Ok done) may = refl
 put_spares s puts event (Err PutNo.Stale) may = refl
@@ -60,6 +62,7 @@ put_spares s (Some events) event (Err (PutNo.Spent Check)) may = refl
 put_spares s (Some events) event (Err (PutNo.Spent Life)) may = refl
 put_spares s (Some events) event (Err (PutNo.Spent Calls)) may = absurd (let is : Calls ≡ File = may.1 in cc)
 
+-- nor is a take
 pub take_spares : (tells : Bool) (s : State) (takes : Option (List ℕ)) (reply : Result Taken TakeRefused) → AdmitsTake tells s takes reply → is_spent_take reply ≡ false
 take_spares tells s takes (Ok taken) may = refl
 take_spares tells s takes (Err TakeNo.Stale) may = refl
@@ -115,12 +118,15 @@ stage_spares refusal its (Err (StageNo.Spent Check)) never may = refl
 stage_spares refusal its (Err (StageNo.Spent Life)) never may = refl
 stage_spares refusal its (Err (StageNo.Spent Calls)) never may = absurd (never may)
 
+-- nor is a stage of puts
 pub stage_put_spares : (s : State) (puts : Option (List Content)) (its : Ticket) (reply : Result Ticket StageCause) → AdmitsStage (stage_put_refusal s puts) its reply → is_spent_stage reply ≡ false
 stage_put_spares s puts its reply may = stage_spares (stage_put_refusal s puts) its reply (no_stage_put s puts) may
 
+-- nor is a stage of takes
 pub stage_take_spares : (s : State) (takes : Option (List ℕ)) (its : Ticket) (reply : Result Ticket StageCause) → AdmitsStage (stage_take_refusal s takes) its reply → is_spent_stage reply ≡ false
 stage_take_spares s takes its reply may = stage_spares (stage_take_refusal s takes) its reply (no_stage_take s takes) may
 
+-- nor is a flush
 pub flush_spares : (s : State) (reply : Result (Unit {0}) FlushRefused) → AdmitsFlush s reply → is_spent_flush reply ≡ false
 flush_spares s (Ok done) may = refl
 flush_spares s (Err FlushNo.Broken) may = refl

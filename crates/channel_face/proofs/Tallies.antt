@@ -30,6 +30,7 @@ take_done-push s (x ∷ h) step = omega (arith, take_done-push (after s x.call) 
 same_tally : (a b : Tally) → a.put_attempts ≡ b.put_attempts → a.put_successes ≡ b.put_successes → a.take_attempts ≡ b.take_attempts → a.take_successes ≡ b.take_successes → a ≡ b
 same_tally a b x y z w = rw (x, y, z, w) refl
 
+-- what is counted of a history with one call more
 pub tally-push : (s : State) (h : List Step) (step : Step) → tally s (h ++ step ∷ []) ≡ counted (state_after s h) step.call (tally s h)
 tally-push s h step = same_tally (tally s (h ++ step ∷ [])) (counted (state_after s h) step.call (tally s h))
     (ap capped (puts-push h step) ∙ capped-add (put_attempts h) (put_calls step.call))

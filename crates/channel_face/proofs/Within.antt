@@ -88,6 +88,7 @@ stays r s t rules within lasting open_ones =
     let fits : limited s.rules.kind t ≤ s.rules.limits.capacity = omega (arith, no_more s.rules.kind s t lasting open_ones, within.1) in
     (rules ∙ within.0, subst (λ (q : Rules). limited q.kind t ≤ q.limits.capacity) (sym rules) fits)
 
+-- numbered events are as many as the events
 pub length-numbered : (first : ℕ) (events : List Content) → length (numbered first events) ≡ length events
 length-numbered first [] = refl
 length-numbered first (event ∷ events) = omega (arith, length-numbered (first + 1) events)
@@ -100,6 +101,7 @@ fewer_left : (numbers : List ℕ) (items : List (ℕ × Content)) → length (wi
 fewer_left numbers [] = omega arith
 fewer_left numbers (item ∷ items) = no_longer (is_among numbers item.0) item (without numbers items) items (fewer_left numbers items)
 
+-- a journal leaves no more events than there were and it puts
 pub left_size : (base : Base) (journal : List Entry) → length (left base journal) ≤ length base.items + length (put_events journal)
 left_size base journal =
     let all : List (ℕ × Content) = base.items ++ numbered base.first (put_events journal) in
@@ -245,6 +247,7 @@ within_stage_take r s token none within = within_stage r s token.number (entry_o
         let same : Takes allowed.0 ≡ e = entry_same (entry_of token.number s.opened) (Takes allowed.0) e (takes_of-some s token allowed.0 allowed.1).1 is in
         subst (λ (x : Entry). room_refusal s.rules.kind s (length (put_events (x ∷ []))) ≡ None) same (room_for_none s.rules.kind s within.1)
 
+-- a first part of what is staged puts no more events than all of it
 pub front_size : (k : ℕ) (staged : List Entry) → length (put_events (take k staged)) ≤ length (put_events staged)
 front_size zero [] = omega arith
 front_size (suc k) [] = omega arith
@@ -304,6 +307,7 @@ pub within_run : (r : Rules) (tells : Bool) (s : State) (h : List Step) → IsWi
 within_run r tells s [] within run none = within
 within_run r tells s (step ∷ h) within run none = within_run r tells (after s step.call) h (within_after r tells s step.call run.0 none.0 within) run.1 none.1
 
+-- a channel opens within its capacity where its base is
 pub within_opening : (k : Kind) (o : Opening) → length o.base.items ≤ o.rules.limits.capacity → limited k (opening o) ≤ o.rules.limits.capacity
 within_opening OnFile o fits = omega (arith, fits)
 within_opening InMemory o fits = omega (arith, fits)

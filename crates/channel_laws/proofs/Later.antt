@@ -18,14 +18,17 @@ use Rattle.channel_laws.proofs.Moving.{journal-append}
 use Rattle.channel_laws.proofs.Settling.{behind-append}
 use Rattle.channel_laws.proofs.Telling.{stays_settled}
 
+-- a port's batch is the same batch in each longer history
 pub batch_is_of_the_end : {C : Type 0} (stands : C → Opening → List Step → Type 0) → BatchIsOfTheEnd stands
 batch_is_of_the_end stands v h events result earlier own begins batch =
     batch_on (Saw stands v) (Stood v.base h v.numbers) (length v.seen) (length h) (stood stands v h begins) (front_few v.seen h begins) events result earlier own batch
 
+-- a port's commit of takes is the same in each longer history
 pub commit_is_of_the_end : {C : Type 0} (stands : C → Opening → List Step → Type 0) → CommitIsOfTheEnd stands
 commit_is_of_the_end stands v h token result earlier own begins commit =
     commit_on (Saw stands v) (Stood v.base h v.numbers) (length v.seen) (length h) (stood stands v h begins) (front_few v.seen h begins) token result earlier own commit
 
+-- a port's rollback of takes is the same in each longer history
 pub rollback_is_of_the_end : {C : Type 0} (stands : C → Opening → List Step → Type 0) → RollbackIsOfTheEnd stands
 rollback_is_of_the_end stands v h token earlier own begins rolled =
     rolled_on (Saw stands v) (Stood v.base h v.numbers) (length v.seen) (length h) (stood stands v h begins) (front_few v.seen h begins) (λ b. RollbackTake token b) (λ s. takes_of s token ≡ None) earlier own rolled
@@ -37,6 +40,7 @@ entry_stays o h later front entry has = subst (HasBehind front entry) (sym (jour
 longer : (h front : List Step) (stage : Step) (back later : List Step) → h ≡ front ++ stage ∷ back → h ++ later ≡ front ++ stage ∷ (back ++ later)
 longer h front stage back later is = ap (λ (l : List Step). l ++ later) is ∙ append_assoc front (stage ∷ back) later
 
+-- a batch that is in the journal stays there, whatever is called later
 pub put_stays : PutStaysInJournal
 put_stays o h later own events number p = record {
   token = p.token;
@@ -55,6 +59,7 @@ put_stays o h later own events number p = record {
   as_journal = p.as_journal;
 }
 
+-- takes that are in the journal stay there, whatever is called later
 pub taken_stays : TakenStaysInJournal
 taken_stays o h later token t = record {
   front = t.front;
@@ -73,5 +78,6 @@ taken_stays o h later token t = record {
 pub put_later : (o : Opening) (h all : List Step) (own : List Own) (events : List Content) (number : ℕ) → IsPrefix h all → ArePutInJournal o h own events number → ArePutInJournal o all own events number
 put_later o h all own events number begins p = subst (λ (l : List Step). ArePutInJournal o l own events number) begins.1 (put_stays o h begins.0 own events number p)
 
+-- takes in the journal are in that of each history that begins with this one
 pub taken_later : (o : Opening) (h all : List Step) (token : Token) → IsPrefix h all → AreTakenInJournal o h token → AreTakenInJournal o all token
 taken_later o h all token begins t = subst (λ (l : List Step). AreTakenInJournal o l token) begins.1 (taken_stays o h begins.0 token t)

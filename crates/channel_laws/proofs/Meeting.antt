@@ -25,6 +25,7 @@ own_back : {V : Type 0} (look : State → V) (s : State) (own : List Own) → Ar
 own_back look s [] from = refl
 own_back look s (o ∷ own) from = inr (own, ap (λ (x : Own). x ∷ own) (made_in o s from.0), own_back look (after s o.call) own from.1)
 
+-- a face's own calls are among those of a history that ends with them
 pub own_among : (s : State) (earlier : List Step) (own : List Own) → AreFrom (state_after s earlier) own → AreAmong looks_at_nothing s (earlier ++ steps_of own) own
 own_among s [] own from = own_back looks_at_nothing s own from
 own_among s (step ∷ earlier) own from = inl (refl, own_among (after s step.call) earlier own from)
@@ -165,8 +166,10 @@ module _ (stands : Opening → List Step → Type 0) (tells : Bool) (s : State) 
   alone : (token : Token) → BeginsWith more token → AreAmong (λ t. puts_of t token) (opening start) whole (own ++ more)
   alone token begins = puts_among (opening start) earlier (own ++ more) token tt (later token begins) made.1.from
 
+  -- a batch that one's own channel answered Ok is in the journal
   pub own_answered : (number : ℕ) (events : List Content) → IsPutBatch (Was stands) seen events (Ok number) own more → ArePutInJournal start whole more events number
   own_answered number events batch = answered_is_in_journal (Was stands) seen tells start whole number events own more run left batch alone
 
+  -- what was taken and committed with Ok through one's own channel is in the journal as taken
   pub own_committed : (token : Token) → IsTakeCommit (Was stands) seen token (Ok tt) own more → AreTakenInJournal start whole token
   own_committed token commit = committed_is_in_journal (Was stands) seen tells start whole token own more run left (own_among (opening start) earlier (own ++ more) made.1.from) commit

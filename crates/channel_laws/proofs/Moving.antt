@@ -93,6 +93,7 @@ in_life : (s : State) (call : Call) (new : State) (kept : List Entry) → GoesOn
 in_life s call new kept (inl m) = inl m
 in_life s call new kept (inr m) = inr (inl m)
 
+-- each call keeps what was staged, settles it, or begins the next life
 pub moves : (s : State) (call : Call) → Moves s call (after s call) (kept_by s call)
 moves s (BeginPut reply) = in_life s (BeginPut reply) _ _ (begins (Puts []) s reply)
 moves s (BeginTake reply) = in_life s (BeginTake reply) _ _ (begins (Takes []) s reply)
@@ -140,15 +141,18 @@ pub record IsCounted (s : State) : Type 0 where
   pub lives : s.life ≡ length s.ends + 1
   pub frames : 1 ≤ s.frame
 
+-- settling what is staged never lowers the frame
 pub frame_grows : (none : Bool) (frame new : ℕ) → new ≡ cond none frame (frame + 1) → frame ≤ new
 frame_grows true frame new is = omega (arith, is)
 frame_grows false frame new is = omega (arith, is)
 
+-- no call lowers the life
 pub life_grows : (s : State) (call : Call) (new : State) (kept : List Entry) → Moves s call new kept → s.life ≤ new.life
 life_grows s call new kept (inl m) = omega (arith, m.life)
 life_grows s call new kept (inr (inl m)) = omega (arith, m.life)
 life_grows s call new kept (inr (inr m)) = omega (arith, m.life)
 
+-- what a call does leaves a frame for each life
 pub counted_moved : (s : State) (call : Call) (new : State) (kept : List Entry) → IsCounted s → Moves s call new kept → IsCounted new
 counted_moved s call new kept c (inl m) = record {
   lives = m.life ∙ (c.lives ∙ ap (λ (l : List ℕ). length l + 1) (sym m.ends));
@@ -162,6 +166,7 @@ counted_moved s call new kept c (inr (inr m)) =
     let longer : length new.ends ≡ length s.ends + 1 = ap (λ (l : List ℕ). length l) m.ends ∙ length-append s.ends (s.frame ∷ []) in
     record { lives = omega (arith, m.life, c.lives, longer); frames = omega (arith, m.frame) }
 
+-- after each history there has been a frame in each life
 pub counted_run : (s : State) (h : List Step) → IsCounted s → IsCounted (state_after s h)
 counted_run s [] c = c
 counted_run s (step ∷ h) c = counted_run (after s step.call) h (counted_moved s step.call (after s step.call) (kept_by s step.call) c (moves s step.call))
@@ -176,6 +181,7 @@ first_moved s call new kept front (inl m) = rw m.keeps (omega (arith, m.first))
 first_moved s call new kept front (inr (inl m)) = rw m.keeps m.first
 first_moved s call new kept front (inr (inr m)) = first_kept s m.source kept new.first (m.front front) m.keeps m.first
 
+-- the number of the next event rises by the puts in the journal, where no reopen read its list
 pub first_run : (s : State) (h : List Step) → ReadsNone h → (state_after s h).first ≡ s.first + length (put_events (journal s h))
 first_run s [] none = omega arith
 first_run s (step ∷ h) none =
@@ -184,9 +190,11 @@ first_run s (step ∷ h) none =
     let puts : length (put_events (kept ++ journal new h)) ≡ length (put_events kept) + length (put_events (journal new h)) = ap (λ (l : List Content). length l) (put_events-append kept (journal new h)) ∙ length-append (put_events kept) (put_events (journal new h)) in
     omega (arith, first_run new h none.1, first_moved s step.call new kept none.0 (moves s step.call), puts)
 
+-- a channel that was opened has its first life and its first frame
 pub counted_opening : (o : Opening) → IsCounted (opening o)
 counted_opening o = record { lives = omega arith; frames = omega arith }
 
+-- the journal of some calls, and then of further ones
 pub journal-append : (s : State) (x y : List Step) → journal s (x ++ y) ≡ journal s x ++ journal (state_after s x) y
 journal-append s [] y = refl
 journal-append s (step ∷ x) y = ap (λ (l : List Entry). kept_by s step.call ++ l) (journal-append (after s step.call) x y) ∙ sym (append_assoc (kept_by s step.call) (journal (after s step.call) x) (journal (state_after (after s step.call) x) y))

@@ -35,6 +35,7 @@ earlier_stage s number (Some (Takes [])) all = numbered-without s.txn number s.o
 earlier_stage s number (Some (Puts (e ∷ es))) all = numbered-without s.txn number s.opened all
 earlier_stage s number (Some (Takes (n ∷ ns))) all = numbered-without s.txn number s.opened all
 
+-- after a call open transactions still have earlier numbers
 pub earlier_after : (s : State) (call : Call) → AreEarlier s → AreEarlier (after s call)
 earlier_after s (BeginPut (Ok token)) all = numbered-push s.txn (Puts []) s.opened all
 earlier_after s (BeginPut (Err e)) all = all
@@ -67,6 +68,7 @@ earlier_after s (Prune reply) all = all
 earlier_after s (Reopen (Ok r)) all = tt
 earlier_after s (Reopen (Err e)) all = all
 
+-- after a history open transactions still have earlier numbers
 pub earlier_run : (s : State) (h : List Step) → AreEarlier s → AreEarlier (state_after s h)
 earlier_run s [] all = all
 earlier_run s (step ∷ h) all = earlier_run (after s step.call) h (earlier_after s step.call all)

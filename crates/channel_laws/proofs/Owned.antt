@@ -37,10 +37,12 @@ module _ {C : Type 0} (stands : C → Opening → List Step → Type 0) (tells :
   among : {V : Type 0} (look : State → V) → OthersKeep v.numbers look (opening v.base) v.seen → AreAmong look (opening v.base) v.seen (earlier ++ more)
   among look leave = subst (λ (l : List Own). AreAmong look (opening v.base) v.seen l) own (own_among v.numbers look (opening v.base) v.seen leave)
 
+  -- a batch that a port answered Ok is in the journal of what its pass has seen
   pub put_is_in_journal : (number : ℕ) (events : List Content) → IsPutBatch (Saw stands v) count events (Ok number) earlier more
       → ((token : Token) → BeginsWith more token → OthersKeep v.numbers (λ s. puts_of s token) (opening v.base) v.seen) → ArePutInJournal v.base v.seen more events number
   put_is_in_journal number events batch keep =
       answered_is_in_journal (Saw stands v) count (tells all.0) v.base v.seen number events earlier more all.1.run left batch (λ token begins. among (λ (s : State). puts_of s token) (keep token begins))
 
+  -- what a transaction took that a port committed with Ok is in that journal as taken
   pub taken_is_in_journal : (token : Token) → IsTakeCommit (Saw stands v) count token (Ok tt) earlier more → AreTakenInJournal v.base v.seen token
   taken_is_in_journal token commit = committed_is_in_journal (Saw stands v) count (tells all.0) v.base v.seen token earlier more all.1.run left (among looks_at_nothing (keep_nothing v.numbers (opening v.base) v.seen)) commit

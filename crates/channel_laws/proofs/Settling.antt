@@ -11,9 +11,11 @@ use Rattle.channel_laws.proofs.Telling.{end_of, end_stays, end_is, IsWritten, ye
 
 -- Fronts.
 
+-- an entry behind a front stays there when more comes after
 pub behind-append : (front : List Entry) (entry : Entry) (all more : List Entry) → HasBehind front entry all → HasBehind front entry (all ++ more)
 behind-append front entry all more is = (is.0 ++ more, ap (λ (l : List Entry). l ++ more) is.1 ∙ append_assoc front (entry ∷ is.0) more)
 
+-- an entry behind a front is behind a longer one when something comes before both
 pub behind-front : (before front : List Entry) (entry : Entry) (all : List Entry) → HasBehind front entry all → HasBehind (before ++ front) entry (before ++ all)
 behind-front before front entry all is = (is.0, ap (λ (l : List Entry). before ++ l) is.1 ∙ sym (append_assoc before front (entry ∷ is.0)))
 
@@ -27,6 +29,7 @@ behind_or_not (x ∷ front) entry more (suc k) = from (behind_or_not front entry
     from (inl is) = inl (is.0, ap (λ (l : List Entry). x ∷ l) is.1)
     from (inr isnt) = inr tt
 
+-- where an entry is staged, it is not so that none is
 pub some_staged : (front : List Entry) (entry : Entry) (more : List Entry) → is_none_staged (front ++ entry ∷ more) ≡ false
 some_staged [] entry more = refl
 some_staged (x ∷ front) entry more = refl
@@ -109,6 +112,7 @@ module _ (t : Ticket) (front : List Entry) (entry : Entry) where
       inr (inl (inl (m.life ∙ is.life, omega (arith, frame, is.frame)), (is.more, m.keeps ∙ is.staged)))
   staged_moved s call new kept c is (inr (inr m)) = inr (reopened s call new kept c is m)
 
+  -- where an entry stands after any further calls
   pub stands_run : (s : State) (h : List Step) → 1 ≤ t.life → IsCounted s → IsStaged t front entry s → Stands t front entry (state_after s h) (journal s h)
   stands_run s [] some c is = inl (is, refl)
   stands_run s (step ∷ h) some c is = from (staged_moved s step.call new kept c is does) (stands_run new h some counted)
@@ -132,6 +136,7 @@ module _ (t : Ticket) (front : List Entry) (entry : Entry) where
 
 -- What a ticket shows of that.
 
+-- the ticket of an entry that is staged yet is not answered Yes
 pub staged_not_yes : (t : Ticket) (front : List Entry) (entry : Entry) (s : State) → 1 ≤ t.frame → IsStaged t front entry s → settled s t ≡ Yes → ⊥
 staged_not_yes t front entry s some is told = from (yes_tells t s told)
   where
@@ -140,6 +145,7 @@ staged_not_yes t front entry s some is told = from (yes_tells t s told)
     from (inr (inl here)) = absurd (omega (arith, is.frame, here.1))
     from (inr (inr before)) = absurd (omega (arith, is.life, before.1))
 
+-- the ticket of an entry that was dropped is not answered Yes
 pub dropped_not_yes : (t : Ticket) (s : State) → 1 ≤ t.frame → IsDropped t s → settled s t ≡ Yes → ⊥
 dropped_not_yes t s some is told = from (yes_tells t s told)
   where
@@ -148,6 +154,7 @@ dropped_not_yes t s some is told = from (yes_tells t s told)
     from (inr (inl here)) = absurd (omega (arith, is.later, here.0))
     from (inr (inr before)) = absurd (omega (arith, is.ended, before.2))
 
+-- the ticket of an entry whose frame is an earlier one is not answered No
 pub past_not_no : (t : Ticket) (s : State) → IsPast t s → settled s t ≡ No → ⊥
 past_not_no t s (inl past) told = absurd (omega (arith, past.1, (no_tells t s told).1))
 past_not_no t s (inr later) told = absurd (omega (arith, later, (no_tells t s told).0))

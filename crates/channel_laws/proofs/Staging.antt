@@ -81,6 +81,7 @@ numbers_as tells s call t events may is = absurd is
 
 -- The calls around it.
 
+-- a run admits each of its calls in the state before it
 pub admitted : (tells : Bool) (s : State) (x : List Step) (step : Step) (y : List Step) → IsRun tells s (x ++ step ∷ y) → Admits tells (state_after s x) step.call
 admitted tells s [] step y run = run.0
 admitted tells s (first ∷ x) step y run = admitted tells (after s first.call) x step y run.1
@@ -116,6 +117,7 @@ module _ (tells : Bool) (o : Opening) (h : List Step) (stage : Step) (later : Li
   whole : journal (opening o) (h ++ stage ∷ later) ≡ journal (opening o) h ++ kept_later
   whole = journal-append (opening o) h (stage ∷ later) ∙ ap (λ (l : List Entry). journal (opening o) h ++ (l ++ kept_later)) entered.settles_none
 
+  -- what a ticket tells is settled is in the journal, after the commits before its stage
   pub kept_if_settled : settled end t ≡ Yes → HasBehind (commits (opening o) h) entry (journal (opening o) (h ++ stage ∷ later))
   kept_if_settled told = from stands
     where
@@ -124,6 +126,7 @@ module _ (tells : Bool) (o : Opening) (h : List Step) (stage : Step) (later : Li
       from (inr (inl past)) = rw whole (behind-front (journal (opening o) h) s.staged entry kept_later past.1)
       from (inr (inr dropped)) = absurd (dropped_not_yes t end has_frame dropped told)
 
+  -- what a ticket tells is not settled is still staged, and the journal is as it was
   pub staged_if_not : settled end t ≡ No → (journal (opening o) (h ++ stage ∷ later) ≡ journal (opening o) h) × HasBehind s.staged entry end.staged
   staged_if_not told = from stands
     where
@@ -145,6 +148,7 @@ module _ (tells : Bool) (o : Opening) (h : List Step) (stage : Step) (later : Li
       from (inr (inl (inr later, has))) = absurd (omega (arith, same, later))
       from (inr (inr dropped)) = absurd (omega (arith, same, dropped.later))
 
+-- a ticket of puts has the number of the first of them, and their count
 pub numbers_puts : (tells : Bool) (o : Opening) (h : List Step) (stage : Step) (t : Ticket) (events : List Content) → IsRun tells (opening o) (h ++ stage ∷ []) → Stages (state_after (opening o) h) stage.call t (Puts events) → ReadsNone h → (t.first ≡ next o.base (commits (opening o) h)) × (t.count ≡ length events)
 numbers_puts tells o h stage t events run stages none =
     let s : State = state_after (opening o) h in

@@ -32,6 +32,7 @@ all_three false b c is = absurd (cc)
 less : (a b : ℕ) → nat_lt a b ≡ true → a < b
 less a b is = (Decides-ltb a b).0 is
 
+-- where a ticket is answered Yes, its frame was written, or it has none
 pub yes_tells : (t : Ticket) (s : State) → settled s t ≡ Yes → (t.frame ≡ 0) ⊎ IsWritten t s
 yes_tells t s told = by_frame (eqb_tells t.frame 0)
   where
@@ -52,6 +53,7 @@ yes_tells t s told = by_frame (eqb_tells t.frame 0)
 is_less : (a b : ℕ) → a < b → nat_lt a b ≡ true
 is_less a b is = (Decides-ltb a b).1 is
 
+-- a ticket whose frame was written, or that has none, is answered Yes
 pub tells_yes : (t : Ticket) (s : State) → (t.frame ≡ 0) ⊎ IsWritten t s → settled s t ≡ Yes
 tells_yes t s is = by_frame (eqb_tells t.frame 0) is
   where
@@ -77,6 +79,7 @@ same_if_no : (same sound : Bool) → cond (same && sound) No InDoubt ≡ No → 
 same_if_no true sound is = refl
 same_if_no false sound is = absurd (cc)
 
+-- where a ticket is answered No, its life and its frame are the present ones
 pub no_tells : (t : Ticket) (s : State) → settled s t ≡ No → (s.life ≡ t.life) × (t.frame ≡ s.frame)
 no_tells t s told = by_frame (eqb_tells t.frame 0)
   where
@@ -126,6 +129,7 @@ goes_on : (t : Ticket) (s : State) (h : List Step) → IsCounted s → (t.frame 
 goes_on t s h c (inl none) = inl none
 goes_on t s h c (inr written) = inr (written_run t s h c written)
 
+-- a ticket that was answered Yes is answered so after any further calls
 pub stays_settled : (o : Opening) (h later : List Step) (t : Ticket) → settled (state_after (opening o) h) t ≡ Yes → settled (state_after (opening o) (h ++ later)) t ≡ Yes
 stays_settled o h later t told =
     let s : State = state_after (opening o) h in

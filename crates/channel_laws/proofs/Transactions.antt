@@ -311,6 +311,7 @@ module _ (saw : List Own → State → Type 0) (seen : ℕ) (tells : Bool) (o : 
   run_staged : IsRun tells (opening o) (staged ++ staging.step ∷ [])
   run_staged = run_front tells (opening o) (staged ++ staging.step ∷ []) staging.rest (subst (λ (l : List Step). IsRun tells (opening o) l) (staging.whole ∙ sym (append_assoc staged (staging.step ∷ []) staging.rest)) run)
 
+  -- a batch that was answered Ok is in the journal under the number of the answer
   pub answered_is_in_journal : ArePutInJournal o h own events number
   answered_is_in_journal = record {
     token = a.token;
@@ -372,5 +373,6 @@ module _ (saw : List Own → State → Type 0) (seen : ℕ) (tells : Bool) (o : 
   by_reply (Ok ticket) s staged ending calls made all ends = by_sure ticket s made.0 ending (calls ∙ ap (λ (l : List Own). l ++ ending) made.1) all ends.0 ends.1 ends.2
   by_reply (Err cause) s staged ending calls made all ends = absurd (let no = ends.1 in cc)
 
+  -- what a transaction took that was committed with Ok is in the journal as taken
   pub committed_is_in_journal : IsTakeCommit saw seen token (Ok tt) earlier own → AreTakenInJournal o h token
   committed_is_in_journal commit = by_reply commit.0 commit.1 commit.2 commit.3 commit.4 commit.5 (earlier ++ commit.2) commit.6

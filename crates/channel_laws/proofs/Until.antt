@@ -30,6 +30,7 @@ counted_until m (x ∷ h) = by (nat_le x.moment m) refl (is_counted x.call) refl
     by false a true b more = ap counted_calls (until_out m x h a) ∙ more ∙ sym (until_out m x (counted_calls h) a) ∙ sym (ap (until m) (counted_in x h b))
     by false a false b more = ap counted_calls (until_out m x h a) ∙ more ∙ sym (ap (until m) (counted_out x h b))
 
+-- at each moment a crash leaves of a shared channel's folder what the counted calls may leave
 pub counted_calls_leave : CountedCallsLeave
 counted_calls_leave told faults c start h k t is m image since left =
     let found = k.1.images t is m image since left in

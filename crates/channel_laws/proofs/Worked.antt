@@ -7,6 +7,7 @@ use Rattle.channel_face.specs.Faces.{Own, one, IsPutBatch, IsTakeCommit}
 use Rattle.channel_laws.specs.Rows.{start, token, ticket, done, history, state_at, own_of_first, own_of_second, at_end, drained, taking, committing}
 use Rattle.channel_laws.specs.Transactions.{AreAmong, looks_at_nothing}
 
+-- each answer of the two callers' history is one that the machine gives
 pub run : (e f : Content) → IsRun true (opening start) (history e f)
 run e f = ((refl, refl), ((refl, refl), ((refl, refl), ((refl, refl), ((refl, refl), ((refl, refl), (refl, tt)))))))
 
@@ -39,6 +40,7 @@ first saw e f left =
       ),
     )
 
+-- the second caller's batch, which was answered with number 1
 pub second : (saw : List Own → State → Type 0) (e f : Content) → IsPutBatch saw 7 (f ∷ []) (Ok 1) [] (own_of_second e f)
 second saw e f =
     let put : List Own = one (Put (token 2) f (Ok done)) (state_at (history e f) 3) 0 in
@@ -68,6 +70,7 @@ second saw e f =
       ),
     )
 
+-- no other call changed what the first caller had put
 pub first_alone : (e f : Content) → AreAmong (λ s. puts_of s (token 1)) (opening start) (history e f) (own_of_first e f)
 first_alone e f =
     let staged : List Own = one (StagePut (token 1) (Ok (ticket 1 0))) (state_at (history e f) 4) 0 in
@@ -77,6 +80,7 @@ first_alone e f =
       inl (refl, inr (staged, refl, inl (refl, inr ([], refl, inl (refl, inl (refl, refl)))))),
     )
 
+-- no other call changed what the second caller had put
 pub second_alone : (e f : Content) → AreAmong (λ s. puts_of s (token 2)) (opening start) (history e f) (own_of_second e f)
 second_alone e f =
     let flushed : List Own = one (Flush (Ok tt)) (state_at (history e f) 6) 0 in
@@ -90,6 +94,7 @@ second_alone e f =
       ),
     )
 
+-- each answer of the history in which one event is taken at last is one that the machine gives
 pub run_drained : (e f : Content) → IsRun true (opening start) (drained e f)
 run_drained e f = (
   (refl, refl),
@@ -114,12 +119,14 @@ run_drained e f = (
   ),
 )
 
+-- the third caller's commit of what it took
 pub commit : (e f : Content) → IsTakeCommit (at_end (drained e f)) 11 (token 3) (Ok tt) (taking e f) (committing e f)
 commit e f =
     let staged : List Own = one (StageTake (token 3) (Ok (ticket 2 0))) (state_at (drained e f) 9) 0 in
     let flushed : List Own = one (Flush (Ok tt)) (state_at (drained e f) 10) 0 in
     (Ok (ticket 2 0), state_at (drained e f) 9, staged, flushed, refl, (0, refl), (true, (state_at (drained e f) 10, refl, (Ok tt, (0, refl), refl)), refl))
 
+-- the third caller's calls are among those of that history
 pub among : (e f : Content) → AreAmong looks_at_nothing (opening start) (drained e f) (taking e f ++ committing e f)
 among e f =
     let flushed : List Own = one (Flush (Ok tt)) (state_at (drained e f) 10) 0 in

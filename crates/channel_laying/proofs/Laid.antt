@@ -172,6 +172,7 @@ module _ (t : Told) (w : Writer) (s : State) (disk : OnDisk t w s []) (number : 
     none = λ n high. as_read None (folder (Log n)) (subst (λ (e : Entry). Allows e (folder (Log n))) (disk.gone n high) (others (Log n) (other_log n w.file (λ same. absurd (omega (arith, high, same)))) refl));
   }
 
+  -- a folder gives the log with the new checkpoint passed over or spelled
   pub logs_laid : IsLaying c (folder (Check number)) → Logs folder disk.birth w.file s disk.frames []
   logs_laid (inl passed) = passed_logs passed
   logs_laid (inr spelled) = laid_is_logged earlier folder start disk.birth w.file s disk.frames log disk.is_birth sound staged low text.start_of (laid_at spelled)
@@ -191,6 +192,7 @@ module _ (t u : Told) (w : Writer) (s : State) (disk : OnDisk t w s []) (number 
       settled_recovers s image disk.birth w.file disk.frames [] (logs_laid t w s disk number c start text place unused sound staged low image (λ name other differs. one.others name differs) one.file)
       (own_frames t w s [] disk (image (Log w.file)) (one.others (Log w.file) refl))
 
+  -- at each moment of laying a crash leaves what is settled
   pub moments_laid : LeavesOnly t u (RecoversSettled s)
   moments_laid = only_more t u (OneFile t.now (Check number) (IsLaying c)) (RecoversSettled s) moment_laid changes.images
 
@@ -219,6 +221,7 @@ module _ (t u : Told) (w : Writer) (s : State) (disk : OnDisk t w s []) (number 
           by true same = subst (λ (n : FileName). Allows (u.now n) (image n)) (sym (same_name_is name (Log w.file) same)) own_left
           by false differs = subst (λ (o : Option (List ℕ)). Allows (u.now name) o) (sym (with_at_other folder (Log w.file) name own differs)) (left name differs)
 
+  -- the log is on the disk after a checkpoint was laid as it was before
   pub disk_laid : OnDisk u w s []
   disk_laid = record {
     birth = disk.birth;
@@ -281,11 +284,13 @@ module _ (told : Option Told) (w : Writer) (busy number : ℕ) (next : Next) (ri
   text_is_right t is are = record { left = start.base.items; opened = start.opened; right = (may.text t is).right t.reads (reads_log t w s (disk_of t is) are) }
 
   module _ (told' : Option Told) (changes : Tells told told' (Changes (Check number) (IsLaying c) 3)) where
+    -- whatever a disk shows, laying leaves what recovers as settled
     pub laying_moments : Tells told told' (λ t u. LeavesOnly t u (RecoversSettled s))
     laying_moments =
         tells_more told told' (Changes (Check number) (IsLaying c) 3) (λ t u. LeavesOnly t u (RecoversSettled s))
         (λ t u old new one. moments_laid t u w s (disk_of t old) number c start (may.text t old) may.says.place_is (may.unused t old) may.sound may.staged may.low one) changes
 
+    -- the channel stays logged after a checkpoint was laid
     pub laid_logged : IsLogged told' w busy s
     laid_logged = record {
       busy_is = may.logged.busy_is;
@@ -301,6 +306,7 @@ module _ (told : Option Told) (w : Writer) (busy number : ℕ) (next : Next) (ri
       };
     }
 
+    -- a checkpoint that was kept is the newest in each image, whatever the disk shows
     pub laid_newest : (u : Told) → told' ≡ Some u → IsKept u number (1 ∷ check_bytes c) → (image : Files) → IsImage u.now image → IsNewest image (Some number) × IsCheck image number c start
     laid_newest u new kept image are =
         let b = back told told' (Changes (Check number) (IsLaying c) 3) changes u new in
@@ -333,6 +339,7 @@ lays_alone told mid number c lays =
     tells_more told mid (Lays number) (Changes (Check number) (IsLaying c) 3)
     (λ t u old new one. let one_of = changes_as t u (Check number) IsPassedFile (IsLaying c) 2 (λ file passed. inl passed) one in record { images = one_of.images; others = one_of.others; syncs = omega (arith, one_of.syncs) }) lays
 
+-- laying the text and then opening its gate is one change of the checkpoint's file
 pub lays_both : (told mid told' : Option Told) (number : ℕ) (c : CheckText) → Tells told mid (Lays number) → Tells mid told' (OpensGate number c) → Tells told told' (Changes (Check number) (IsLaying c) 3)
 lays_both told mid told' number c lays opens =
     follows told mid told' (Lays number) (OpensGate number c) (Changes (Check number) (IsLaying c) 3)

@@ -75,6 +75,7 @@ module _ (t u : Told) (w : Writer) (s : State) (records : List Rec) (disk : OnDi
       log : Logs was disk.birth w.file s disk.frames records
       log = disk.logs was left
 
+  -- the log is on the disk after files were removed as it was before
   pub disk_pruned : OnDisk u w s records
   disk_pruned = record {
     birth = disk.birth;
@@ -95,6 +96,7 @@ module _ (t u : Told) (w : Writer) (s : State) (records : List Rec) (disk : OnDi
   abbrev IsKeptIn : Files → Type 0
   IsKeptIn image = (name : FileName) → IsFrom least laid name → Allows (t.now name) (image name)
 
+  -- at each moment of removing files a crash leaves what is settled
   pub moments_pruned : LeavesOnly t u (RecoversSettled s)
   moments_pruned =
       only_more t u IsKeptIn (RecoversSettled s)
@@ -102,6 +104,7 @@ module _ (t u : Told) (w : Writer) (s : State) (records : List Rec) (disk : OnDi
 
 -- over what a disk shows, if it shows it
 
+-- the channel stays logged after files were removed
 pub pruned_logged : (told told' : Option Told) (w : Writer) (busy : ℕ) (s : State) (least laid : ℕ) → WhereTold told (λ t. IsImage t.now t.reads) → Tells told told' (KeepsFrom least laid) → WhereTold told (λ t. least ≤ w.file) → WhereTold told (λ t. AreNeeded t least laid) → IsLogged told w busy s → IsLogged told' w busy s
 pruned_logged told told' w busy s least laid reads keeps low needs log = record {
   busy_is = log.busy_is;
@@ -119,6 +122,7 @@ pruned_logged told told' w busy s least laid reads keeps low needs log = record 
       };
 }
 
+-- whatever a disk shows, removing files leaves what recovers as settled
 pub pruned_moments : (told told' : Option Told) (w : Writer) (busy : ℕ) (s : State) (least laid : ℕ) → WhereTold told (λ t. IsImage t.now t.reads) → Tells told told' (KeepsFrom least laid) → WhereTold told (λ t. least ≤ w.file) → WhereTold told (λ t. AreNeeded t least laid) → IsLogged told w busy s → s.broken ≡ false
     → Tells told told' (λ t u. LeavesOnly t u (RecoversSettled s))
 pruned_moments told told' w busy s least laid reads keeps low needs log still =

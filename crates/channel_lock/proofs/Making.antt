@@ -8,9 +8,11 @@ use Rattle.channel_lock.specs.Calls.{has, calls_by, Below}
 use Rattle.channel_lock.specs.Turns.{Making, MadeInTurn}
 use Rattle.channel_lock.proofs.Histories.{calls_by-own}
 
+-- once the lock was taken no call was made yet
 pub making_none : (v k : View) → k ≡ entered v k.seen → IsPrefix v.seen k.seen → calls_by v.numbers k.seen ≡ calls_by v.numbers v.seen → Below v.passes k.seen → Making v [] k
 making_none v k knew begins calls below = (begins.0, knew, sym begins.1 ∙ sym (append-nil (v.seen ++ begins.0)), calls ∙ sym (append-nil (calls_by v.numbers v.seen)), below, refl)
 
+-- one call more was made under the lock
 pub making_more : (v k w : View) (es : List Step) (e : Step) → Making v es k → has v.numbers e.pass ≡ true → Below k.passes (k.seen ++ e ∷ []) → w ≡ with_call e k → Making v (es ++ e ∷ []) w
 making_more v k w es e m own below new =
     let sn : w.seen ≡ k.seen ++ e ∷ [] = ap (λ (x : View). x.seen) new in (
@@ -22,6 +24,7 @@ making_more v k w es e m own below new =
       calls_by-own v.numbers es e own ∙ ap (λ l. l ++ e ∷ []) m.5,
     )
 
+-- the lock was released after its calls
 pub making_over : (v k w : View) (es : List Step) → Making v es k → w ≡ idle k → MadeInTurn v es w
 making_over v k w es m new =
     let sn : w.seen ≡ k.seen = ap (λ (x : View). x.seen) new in

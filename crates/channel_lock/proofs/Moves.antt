@@ -16,13 +16,16 @@ use Rattle.channel_lock.specs.Calls.{has, calls_by, Below}
 use Rattle.channel_lock.specs.Turns.{Heard, Fits, Apart, Held, Kept, Knows, Takes, Reads, Counts, CountsOne, Leaves}
 use Rattle.channel_lock.proofs.Histories.{begins_self, begins_empty, begins_more, below_up, no_numbers, calls_by-other, below-more}
 
+-- no is not yes
 pub off : false ≡ true → ⊥
 off e = true≢false (sym e)
 
+-- what is not yes is no
 pub not_true : (b : Bool) → ¬ (b ≡ true) → b ≡ false
 not_true true never = absurd (never refl)
 not_true false never = refl
 
+-- the empty part is true of each history
 pub heard_nothing : (log : List Step) (base : Opening) (passes : ℕ) (numbers : List ℕ) → Heard log base passes numbers nothing
 heard_nothing log base passes numbers = record { same = λ z. absurd (off z); begins = begins_empty log; calls = no_numbers log; among = λ n h. absurd (off h) }
 
@@ -53,6 +56,7 @@ was views id v w at less j u e =
     (λ (x : (j ≢ id) × (get_elem? views j ≡ some u)). (u, x.1, λ n h. h))
     (at_set views id j w u e)
 
+-- numbers stay apart where one view was set that has no new number
 pub apart_set : (views : List View) (id : ℕ) (v w : View) → get_elem? views id ≡ some v → ((n : ℕ) → has w.numbers n ≡ true → has v.numbers n ≡ true) → Apart views → Apart (set views id w)
 apart_set views id v w at less apart i j u x ui xj n hu hx =
     let a = was views id v w at less i u ui in
@@ -88,6 +92,7 @@ module _ {C : Type 0} (stands : C → Opening → List Step → Type 0) (base : 
     apart = subst Apart (sym (set_again s.views id v at)) k.apart;
   }
 
+  -- a seat takes the lock, with the channel where it was free
   pub take_turn : (id : ℕ) (v : View) → v.turn ≡ false → v.live ≡ true → Allows (Kept stands base passes) 1 id (v, []) 1 (λ n. either (n == 0) 1 n) (Takes stands (step 1 1 0 1 none) (v, []))
   take_turn id v free live s k wide at small = subst P (sym k.words) (exchanged k.turn 0 1 F hit miss)
     where
@@ -146,6 +151,7 @@ module _ {C : Type 0} (stands : C → Opening → List Step → Type 0) (base : 
       miss : k.turn ≢ 0 → F k.turn
       miss ne = (v, keeps, tt, still s k id v at, subst (Tells (v, [])) (sym (ne_eqb k.turn 0 ne)) refl)
 
+  -- the same taking of the lock, for a seat whose slot is known to be empty
   pub take_turn_as : (id : ℕ) (me : Me (Option C) View) → me.0.turn ≡ false → me.1 ≡ [] → me.0.live ≡ true → Allows (Kept stands base passes) 1 id me 1 (λ n. either (n == 0) 1 n) (Takes stands (step 1 1 0 1 none) me)
   take_turn_as id me free empty live = subst (λ l. Allows (Kept stands base passes) 1 id (me.0, l) 1 (λ n. either (n == 0) 1 n) (Takes stands (step 1 1 0 1 maybe.none) (me.0, l))) (sym empty) (take_turn id me.0 free live)
 
@@ -153,6 +159,7 @@ module _ {C : Type 0} (stands : C → Opening → List Step → Type 0) (base : 
   other_idle : (s : State (Option C) View) (k : Kept stands base passes s) (id : ℕ) (v : View) → get_elem? s.views id ≡ some v → v.turn ≡ true → (j : ℕ) (u : View) → j ≢ id → get_elem? s.views j ≡ some u → u.turn ≡ true → ⊥
   other_idle s k id v at on j u apart e t = apart (((k.fits j u e).holds t).0 ∙ sym ((k.fits id v at).holds on).0)
 
+  -- a seat with the lock reads the count, which is the length of the history
   pub reads : (id : ℕ) (me : Me (Option C) View) → me.0.turn ≡ true → Allows (Kept stands base passes) 1 id me 0 (λ n. n) (Reads (step 1 0 0 0 maybe.none) me)
   reads id me on s k wide at small = subst P (sym k.words) (me.0, keeps, tt, still s k id me.0 at, (refl, ap length (sym ((k.fits id me.0 at).holds on).2)))
     where
@@ -160,6 +167,7 @@ module _ {C : Type 0} (stands : C → Opening → List Step → Type 0) (base : 
       P ws = (w : View) × (a : Act (Option C)) × Valid s.homes me.1 a × Kept stands base passes record { words = slice_set ws 0 (slice_index ws 0); homes = homes_after s.homes me.1 a; views = slice_set s.views id w }
           × Reads (step 1 0 0 0 maybe.none) me (slice_index ws 0) (w, carried_after me.1 a)
 
+  -- a seat with the lock counts a call of its own, which becomes the last of the history
   pub counts : (id : ℕ) (me : Me (Option C) View) (e : Step) → me.0.turn ≡ true → me.0.live ≡ true → has me.0.numbers e.pass ≡ true → length me.0.seen + 1 < 18446744073709551616 → Allows (Kept stands base passes) 1 id me 0 (λ n. (n + 1) % 2 ^ 64) (Counts e (step 1 0 1 0 maybe.none) me)
   counts id me e on live own room s k wide at small = subst P (sym k.words) (w, keeps, tt, after, (refl, below))
     where
@@ -226,9 +234,11 @@ module _ {C : Type 0} (stands : C → Opening → List Step → Type 0) (base : 
         apart = apart_set s.views id me.0 w at (λ n h. h) k.apart;
       }
 
+  -- the call that is counted is one of which something is true
   pub counts_one : (id : ℕ) (me : Me (Option C) View) (P : Step → Type 0) (e : Step) → P e → me.0.turn ≡ true → me.0.live ≡ true → has me.0.numbers e.pass ≡ true → length me.0.seen + 1 < 18446744073709551616 → Allows (Kept stands base passes) 1 id me 0 (λ n. (n + 1) % 2 ^ 64) (CountsOne P (step 1 0 1 0 maybe.none) me)
   counts_one id me P e picked on live own room s k wide at small = let r = counts id me e on live own room s k wide at small in (r.0, r.1, r.2, r.3, (e, picked, r.4))
 
+  -- a seat releases the lock and puts the channel back
   pub leaves : (id : ℕ) (me : Me (Option C) View) (c : C) → me.0.turn ≡ true → me.0.live ≡ true → me.1 ≡ (0, Some c) ∷ [] → stands c me.0.base me.0.seen → Allows (Kept stands base passes) 1 id me 1 (λ _. 0) (λ _. Leaves (step 1 1 0 0 maybe.none) me 0)
   leaves id me c on live out ok = subst Q (sym out) go
     where
@@ -268,6 +278,7 @@ module _ {C : Type 0} (stands : C → Opening → List Step → Type 0) (base : 
             apart = apart_set s.views id me.0 (idle me.0) at (λ n h. h) k.apart;
           }
 
+  -- a seat shuts the table and leaves the slot empty
   pub shuts : (id : ℕ) (me : Me (Option C) View) → me.0.turn ≡ true → me.1 ≡ (0, None) ∷ [] → Allows (Kept stands base passes) 1 id me 1 (λ _. 2) (λ _. Leaves (step 1 1 2 0 maybe.none) me 2)
   shuts id me on out = subst Q (sym out) go
     where
@@ -307,6 +318,7 @@ module _ {C : Type 0} (stands : C → Opening → List Step → Type 0) (base : 
             apart = apart_set s.views id me.0 (idle me.0) at (λ n h. h) k.apart;
           }
 
+  -- a seat that emptied its channel's place fills it again and releases the lock
   pub leaves_as : (id : ℕ) (me me' : Me (Option C) View) (c : C) → me.0.turn ≡ true → me.0.live ≡ true → me.1 ≡ (0, None) ∷ [] → stands c me.0.base me.0.seen → me' ≡ (me.0, (0, Some c) ∷ rest me.1)
       → Allows (Kept stands base passes) 1 id me' 1 (λ _. 0) (λ _. Leaves (step 1 1 0 0 maybe.none) me' 0)
   leaves_as id me me' c on live out ok new = subst (λ (m : Me (Option C) View). Allows (Kept stands base passes) 1 id m 1 (λ _. 0) (λ _. Leaves (step 1 1 0 0 maybe.none) m 0))

@@ -27,6 +27,7 @@ whole l log p q = let a = ap length p.1 in let b = ap length q.1 in
     sym p.1 ∙ ap (λ r. log ++ r) (nil_of p.0 (omega (arith, length-append log p.0, length-append l q.0))) ∙ append-nil log
 
 module _ {C : Type 0} (stands : C → Opening → List Step → Type 0) (base : Opening) (passes : ℕ) where
+  -- a new table with a channel that made no call keeps the rule
   pub begins : (c : C) → stands c base [] → Kept stands base passes (opening (0 ∷ 0 ∷ []) (Some c ∷ []) (dealer base passes))
   begins c ok = record {
     log = [];
@@ -53,6 +54,7 @@ module _ {C : Type 0} (stands : C → Opening → List Step → Type 0) (base : 
       nobody zero v e n = subst (λ (u : View). has u.numbers n ≡ false) (some-injective (dealer base passes) v e) refl
       nobody (suc i) v e n = absurd (some-ne-none v (sym e))
 
+  -- the rule is kept where the first seat deals a number to a new one
   pub deals : (id : ℕ) (v : View) → v.deals ≡ true → v.turn ≡ false → v.live ≡ true → v.dealt < v.passes → Splits (Kept stands base passes) id v (dealing v) (newcomer v)
   deals id v on free live lt s k at = record {
     log = k.log;
@@ -150,6 +152,7 @@ module _ {C : Type 0} (stands : C → Opening → List Step → Type 0) (base : 
           (at_end old (newcomer v) x j xj))
           (at_end old (newcomer v) u i ui)
 
+  -- the rule is kept where one seat takes another in
   pub joins : (id : ℕ) (v : View) (other : ℕ) (w : View) → w.turn ≡ false → v.live ≡ true → Joins (Kept stands base passes) id v other w (both v w) gone
   joins id v other w free live s k at away there = record {
     log = k.log;
@@ -236,6 +239,7 @@ module _ {C : Type 0} (stands : C → Opening → List Step → Type 0) (base : 
           (λ (p : (a.0 ≡ other) × (i ≡ id)). ⊎_elim (λ (q : b.0 ≡ j). absurd (b.4 (sym q ∙ sym e ∙ p.0))) (λ (q : (b.0 ≡ other) × (j ≡ id)). p.1 ∙ sym q.1) b.5)
           a.5
 
+  -- a seat looks after a join, and sees all calls of both
   pub looks_joined : (id : ℕ) (v w : View) → v.live ≡ true → Allows (Kept stands base passes) 1 id (both v w, []) 0 (λ n. n) (LooksJoined (step 1 0 0 0 maybe.none) (both v w, []))
   looks_joined id v w live s k wide at small = (joined (both v w), keeps, tt, after, (refl, mine_has, theirs_has, theirs, mine.parts, λ n h. let lt = mine.drawn n h in let p = (mine.same live).1 in let r = k.room in omega arith))
     where
@@ -282,9 +286,11 @@ module _ {C : Type 0} (stands : C → Opening → List Step → Type 0) (base : 
         apart = apart_set s.views id (both v w) (joined (both v w)) at (λ n h. h) k.apart;
       }
 
+  -- the same look, for a seat that is known to come from a join
   pub looks_joined_as : (id : ℕ) (me : Me (Option C) View) (v w : View) → v.live ≡ true → me ≡ (both v w, []) → Allows (Kept stands base passes) 1 id me 0 (λ n. n) (LooksJoined (step 1 0 0 0 maybe.none) me)
   looks_joined_as id me v w live is = subst (λ (m : Me (Option C) View). Allows (Kept stands base passes) 1 id m 0 (λ n. n) (LooksJoined (step 1 0 0 0 maybe.none) m)) (sym is) (looks_joined id v w live)
 
 module _ {C : Type 0} (stands : C → Opening → List Step → Type 0) where
+  -- the start keeps the rule also where the channel is given as the only item
   pub begins_as : (base : Opening) (passes : ℕ) (c : C) (items : List (Option C)) → items ≡ Some c ∷ [] → stands c base [] → Kept stands base passes (opening (0 ∷ 0 ∷ []) items (dealer base passes))
   begins_as base passes c items is ok = subst (λ (l : List (Option C)). Kept stands base passes (opening (0 ∷ 0 ∷ []) l (dealer base passes))) (sym is) (begins stands base passes c ok)

@@ -50,14 +50,17 @@ gate_torn front back bytes was n is may =
         ∙ ap (λ (k : ℕ). get_or (front ++ was ∷ back) k 0) place
         ∙ get_or-append-add front (was ∷ back) (suc i) 0)
 
+-- the bytes of frames and one more at their end
 pub opened-push : (frames : List (List Rec)) (frame : List Rec) → opened (frames ++ frame ∷ []) ≡ opened frames ++ 1 ∷ frame_bytes frame
 opened-push [] frame = append-nil (1 ∷ frame_bytes frame)
 opened-push (f ∷ frames) frame = ap (λ (l : List ℕ). 1 ∷ frame_bytes f ++ l) (opened-push frames frame) ∙ sym (append_assoc (1 ∷ frame_bytes f) (opened frames) (1 ∷ frame_bytes frame))
 
+-- what holds of all and of one more holds of them with that at the end
 pub all-push : {A : Type 0} (P : A → Type 0) (xs : List A) (x : A) → AllByRecursion P xs → P x → AllByRecursion P (xs ++ x ∷ [])
 all-push P [] x all here = (here, tt)
 all-push P (y ∷ xs) x all here = (all.0, all-push P xs x all.1 here)
 
+-- a file whose closed commit byte was opened over a new frame is a file with that frame
 pub file-push : (birth number : ℕ) (frames : List (List Rec)) (frame : List Rec) → (header birth number ++ opened frames) ++ 1 ∷ (frame_bytes frame ++ 0 ∷ []) ≡ file_of birth number (frames ++ frame ∷ [])
 file-push birth number frames frame =
     sym (append_assoc (header birth number ++ opened frames) (1 ∷ frame_bytes frame) (0 ∷ []))

@@ -149,6 +149,7 @@ module _ (birth number at : ℕ) (frames : List (List Rec)) (frame : List Rec) (
   Law o = WhereTold o (λ t. IsImage t.now t.reads)
 
   module _ (o0 o1 : Option Told) (ready : IsReady o0 birth number at frames) (law : Law o0) where
+    -- however the write of the frame ends, a crash leaves the old frames, or these and the new one
     pub exit1 : (r : Result (Unit {0}) Failed) → Does (On (Log number) (Write (at + 1) piece)) r o0 o1 → Tells o0 o1 (Since 2)
     exit1 r does = tells_more o0 o1 (Leads (On (Log number) (Write (at + 1) piece)) r) (Since 2) (λ t u i0 i1 leads. more 0 t u (omega arith) (first t (ready t i0) r u (law t i0) leads)) does
 
@@ -156,6 +157,7 @@ module _ (birth number at : ℕ) (frames : List (List Rec)) (frame : List Rec) (
     after1 does = tells_more o0 o1 (Leads (On (Log number) (Write (at + 1) piece)) all_done) (So 0 Place1) (λ t u i0 i1 leads. record { rest = ready t i0; since = first t (ready t i0) all_done u (law t i0) leads; place = at1 t (ready t i0) u leads }) does
 
     module _ (o2 : Option Told) (law1 : Law o1) (does1 : Does (On (Log number) (Write (at + 1) piece)) all_done o0 o1) where
+      -- so it is however the sync of the frame ends
       pub exit2 : (r : Result (Unit {0}) Failed) → Does (On (Log number) Sync) r o1 o2 → Tells o0 o2 (Since 2)
       exit2 r does = follows o0 o1 o2 (So 0 Place1) (Leads (On (Log number) Sync) r) (Since 2) (λ t u v i0 i1 i2 so leads. more 1 t v (omega arith) (second t so.rest r u v (law1 u i1) so.place so.since leads)) (after1 does1) does
 
@@ -165,11 +167,13 @@ module _ (birth number at : ℕ) (frames : List (List Rec)) (frame : List Rec) (
           (λ t u v i0 i1 i2 so leads. record { rest = so.rest; since = second t so.rest all_done u v (law1 u i1) so.place so.since leads; place = at2 t so.rest u v so.place leads }) (after1 does1) does
 
       module _ (o3 : Option Told) (law2 : Law o2) (does2 : Does (On (Log number) Sync) all_done o1 o2) where
+        -- before the commit byte is opened, the file reaches to it
         pub place2 : WhereTold o2 (λ u. (bytes : List ℕ) × (u.reads (Log number) ≡ Some bytes) × (at ≤ length bytes))
         place2 u is =
             let b = back o0 o2 (So 1 Place2) (after2 does2) u is in
             (staged, b.2.place.reads, omega (arith, b.2.rest.offset, length-append front (0 ∷ (frame_bytes frame ++ 0 ∷ []))))
 
+        -- so it is however the write that opens the commit byte ends
         pub exit3 : (r : Result (Unit {0}) Failed) → Does (On (Log number) (Write at (1 ∷ []))) r o2 o3 → Tells o0 o3 (Since 2)
         exit3 r does = follows o0 o2 o3 (So 1 Place2) (Leads (On (Log number) (Write at (1 ∷ []))) r) (Since 2) (λ t u v i0 i1 i2 so leads. more 1 t v (omega arith) (third t so.rest r u v (law2 u i1) so.place so.since leads)) (after2 does2) does
 
@@ -179,9 +183,11 @@ module _ (birth number at : ℕ) (frames : List (List Rec)) (frame : List Rec) (
             (λ t u v i0 i1 i2 so leads. record { rest = so.rest; since = third t so.rest all_done u v (law2 u i1) so.place so.since leads; place = at3 t so.rest u v so.place leads }) (after2 does2) does
 
         module _ (o4 : Option Told) (law3 : Law o3) (does3 : Does (On (Log number) (Write at (1 ∷ []))) all_done o2 o3) where
+          -- so it is however the last sync ends
           pub exit4 : (r : Result (Unit {0}) Failed) → Does (On (Log number) Sync) r o3 o4 → Tells o0 o4 (Since 2)
           exit4 r does = follows o0 o3 o4 (So 1 Place3) (Leads (On (Log number) Sync) r) (Since 2) (λ t u v i0 i1 i2 so leads. fourth t so.rest r u v (law3 u i1) so.place so.since leads) (after3 does3) does
 
+          -- after all four calls the file is at rest with the new frame
           pub flushed : Does (On (Log number) Sync) all_done o3 o4 → IsReady o4 birth number (at + length piece) (frames ++ frame ∷ [])
           flushed does u is =
               let s = back o3 o4 (Leads (On (Log number) Sync) all_done) does u is in

@@ -29,6 +29,7 @@ pub first_of : (frames : List (List Rec)) (bytes : List ℕ) → Stops bytes →
 first_of [] bytes stops = stops.some
 first_of (f ∷ fs) bytes stops = (1, (frame_bytes f ++ opened fs) ++ bytes, refl)
 
+-- the first of some frames, and the others and what follows behind it
 pub opened-cons : (f : List Rec) (fs : List (List Rec)) (bytes : List ℕ) → opened (f ∷ fs) ++ bytes ≡ 1 ∷ (frame_bytes f ++ (opened fs ++ bytes))
 opened-cons f fs bytes = ap (λ (l : List ℕ). 1 ∷ l) (append_assoc (frame_bytes f) (opened fs) bytes)
 
@@ -37,12 +38,15 @@ no_more f fs bytes bytes' is stops stops' same =
     let n = first_of fs bytes' stops' in
     stops.none f n.0 n.1 is (same ∙ opened-cons f fs bytes' ∙ ap (λ (l : List ℕ). 1 ∷ (frame_bytes f ++ l)) n.2)
 
+-- lists that are the same are so after their first
 pub tail_of : (a b : ℕ) (x y : List ℕ) → a ∷ x ≡ b ∷ y → x ≡ y
 tail_of a b x y same = cc
 
+-- lists that are the same have the same first
 pub head_of : (a b : ℕ) (x y : List ℕ) → a ∷ x ≡ b ∷ y → a ≡ b
 head_of a b x y same = cc
 
+-- bytes are split in one way into frames and what stops them
 pub one_split : (fs gs : List (List Rec)) (x y : List ℕ) → AllByRecursion IsFrame fs → AllByRecursion IsFrame gs → Stops x → Stops y → opened fs ++ x ≡ opened gs ++ y → (fs ≡ gs) × (x ≡ y)
 one_split [] [] x y each each' stops stops' same = (refl, same)
 one_split [] (g ∷ gs) x y each each' stops stops' same = absurd (no_more g gs x y each'.0 stops stops' same)
@@ -54,12 +58,14 @@ one_split (f ∷ fs) (g ∷ gs) x y each each' stops stops' same =
     let e = one_split fs gs x y each.1 each'.1 stops stops' behind in
     (ap (λ (h : List Rec). h ∷ fs) one ∙ ap (λ (l : List (List Rec)). g ∷ l) e.0, e.1)
 
+-- a commit byte that is not open stops the frames before it
 pub commits_stops : (bytes : List ℕ) (frames : List (List Rec)) (c : Commits bytes frames) → Stops (c.gate ∷ c.rest)
 commits_stops bytes frames c = record {
   some = (c.gate, c.rest, refl);
   none = λ frame gate behind is same. c.closed (head_of c.gate 1 c.rest (frame_bytes frame ++ gate ∷ behind) same);
 }
 
+-- a frame at fault stops the frames before it
 pub breaks_stops : (bytes : List ℕ) (frames : List (List Rec)) (b : Breaks bytes frames) → Stops (1 ∷ b.rest)
 breaks_stops bytes frames b = record {
   some = (1, b.rest, refl);
@@ -104,6 +110,7 @@ unlike number bytes a b fs gs h h' =
     let e = one_header a b number bytes h.1.0 h'.1.0 h.0 h'.0 h.1.1 h'.1.1 in
     not_both h.1.0 fs gs h.1.2 (subst (λ (l : List ℕ). Breaks l gs) (sym e.1) h'.1.2)
 
+-- bytes that hold two contents hold the same one twice
 pub one-content : (number : ℕ) (bytes : List ℕ) (a b : Content) → Holds number bytes a → Holds number bytes b → a ≡ b
 one-content number bytes Blank Blank h h' = refl
 one-content number bytes Blank BadHeader h h' = absurd (omega (arith, h, h'.0))

@@ -175,6 +175,7 @@ not_headed number birth bytes differs has =
         all [] = refl
         all (x ∷ xs) = ap (λ (l : List ℕ). x ∷ l) (all xs)
 
+-- whatever the bytes of a file, it holds some content
 pub some_content : (number : ℕ) (bytes : List ℕ) → (content : Content) × Holds number bytes content
 some_content number bytes = by_length (cases_lt 17 (length bytes))
   where

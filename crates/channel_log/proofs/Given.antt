@@ -33,19 +33,23 @@ stood_by : (held : List ℕ) (records : List Rec) (count : ℕ) → AllByRecursi
 stood_by held [] count each some counted same = absurd (omega (arith, some))
 stood_by held (first ∷ records) count each some counted same = record { first = first; records = records; count = count; framed = each.0; each = each.1; counted = counted; split = same }
 
+-- what is held has a first record, and others and an END behind it
 pub stood : (held : List ℕ) → AreRecords held → StoodAt held
 stood held are = stood_by held are.0 are.1 are.2 are.3 are.4 are.5
 
 outcome_first : (held : List ℕ) (first : Rec) (records : List Rec) (count : ℕ) → IsFramed first → held ≡ closing (first ∷ records) count → outcome_of held ≡ Complete first (record_length first)
 outcome_first held first records count framed same = ap outcome_of (same ∙ cons_closing first records count) ∙ record-again first (closing records count) framed.fields framed.limits
 
+-- the record that was read from what is held is the first one
 pub rec_first : (held : List ℕ) (rec first : Rec) (records : List Rec) (count : ℕ) → IsFramed first → held ≡ closing (first ∷ records) count → outcome_of held ≡ Complete rec (record_length rec) → rec ≡ first
 rec_first held rec first records count framed same read =
     let e : Complete rec (record_length rec) ≡ Complete first (record_length first) = sym read ∙ outcome_first held first records count framed same in cc
 
+-- records and an END are at least as long as the END
 pub length-closing : (records : List Rec) (count : ℕ) → 5 ≤ length (closing records count)
 length-closing records count = omega (arith, length-append (record_bytes records) (6 ∷ u32_bytes count), length-u32_bytes count)
 
+-- what is held is as long as its first record and what stands behind that
 pub length_held : (held : List ℕ) (first : Rec) (records : List Rec) (count : ℕ) → held ≡ closing (first ∷ records) count → length held ≡ record_length first + length (closing records count)
 length_held held first records count same = ap length (same ∙ cons_closing first records count) ∙ length-append (spelling first) (closing records count) ∙ ap (λ (n : ℕ). n + length (closing records count)) (length-spelling first)
 
@@ -80,6 +84,7 @@ behind frame place n first records count same long =
     sym (drop-drop n place frame) ∙ ap (drop n) (same ∙ cons_closing first records count)
     ∙ ap (λ (k : ℕ). drop k (spelling first ++ closing records count)) (long ∙ sym (length-spelling first)) ∙ drop-append_seam (spelling first) (closing records count)
 
+-- where END follows a record, the reader passes it too and holds nothing more
 pub given_end : (frame : List ℕ) (place n : ℕ) (first : Rec) (records : List Rec) (count : ℕ) → AllByRecursion IsFramed records → drop place frame ≡ closing (first ∷ records) count → n ≡ record_length first → get_or frame (place + n) 0 ≡ 6
     → (place + n + 5 ≡ place + step first records) × (drop (place + n + 5) frame ≡ kept records count)
 given_end frame place n first [] count each same long six =
@@ -88,6 +93,7 @@ given_end frame place n first [] count each same long six =
     (omega (arith, long), drop_all (place + n + 5) frame (omega (arith, five, length-drop (place + n) frame)))
 given_end frame place n first (r ∷ rs) count each same long six = absurd (no_end_kind r each.0.no_end (sym (kind_behind r rs count) ∙ sym (byte_behind frame place n first (r ∷ rs) count same long) ∙ six))
 
+-- where no END follows a record, the reader stands before the next one
 pub given_on : (frame : List ℕ) (place n : ℕ) (first : Rec) (records : List Rec) (count : ℕ) → AllByRecursion IsFramed records → drop place frame ≡ closing (first ∷ records) count → n ≡ record_length first → get_or frame (place + n) 0 ≢ 6
     → (place + n ≡ place + step first records) × (drop (place + n) frame ≡ kept records count)
 given_on frame place n first [] count each same long other = absurd (other (byte_behind frame place n first [] count same long))
@@ -98,6 +104,7 @@ pub record OutlinedAt (held : List ℕ) (outline : Outline) (n : ℕ) (first : R
   pub outline_is : outline ≡ outline_of first
   pub length_is : n ≡ record_length first
 
+-- an outline that was read is that of the first record that stands there
 pub outlined_first : (bytes : List ℕ) (at : ℕ) (outline : Outline) (n : ℕ) (first : Rec) (records : List Rec) (count : ℕ) → IsOutlined (take (length bytes - at) (drop at bytes)) outline n → IsFramed first → drop at bytes ≡ closing (first ∷ records) count → OutlinedAt (drop at bytes) outline n first
 outlined_first bytes at outline n first records count outlined framed same =
     let m = outlined first (record_length first) (ap outcome_of (take_rest bytes at) ∙ outcome_first (drop at bytes) first records count framed same) in
@@ -107,6 +114,7 @@ outlined_first bytes at outline n first records count outlined framed same =
 pub whole_first : (held : List ℕ) → AreRecords held → IsWhole (read_of held)
 whole_first held are = let s = stood held are in subst IsWhole (sym (ap as_read (outcome_first held s.first s.records s.count s.framed s.split))) tt
 
+-- where records stand, reading from there to the end of the bytes gives a whole record
 pub whole_at : (bytes : List ℕ) (at : ℕ) → AreRecords (drop at bytes) → IsWhole (read_of (take (length bytes - at) (drop at bytes)))
 whole_at bytes at are = subst (λ (l : List ℕ). IsWhole (read_of l)) (sym (take_rest bytes at)) (whole_first (drop at bytes) are)
 
@@ -119,6 +127,7 @@ outline_within bytes at outline n are outlined =
       omega (arith, m.length_is, length_held (drop at bytes) s.first s.records s.count s.split, length-closing s.records s.count, length-drop at bytes),
     )
 
+-- what was read of a slice up to the end was read of the bytes from that place on
 pub outcome_at : (bytes : List ℕ) (at : ℕ) (rec : Rec) → outcome_of (take (length bytes - at) (drop at bytes)) ≡ Complete rec (record_length rec) → outcome_of (drop at bytes) ≡ Complete rec (record_length rec)
 outcome_at bytes at rec is = ap outcome_of (sym (take_rest bytes at)) ∙ is
 
@@ -126,6 +135,7 @@ kept_records : (frame : List ℕ) (next : ℕ) (records : List Rec) (count : ℕ
 kept_records frame next [] count within each counted same = inl (omega (arith, within, ap length same, length-drop next frame))
 kept_records frame next (r ∷ rs) count within each counted same = inr (r ∷ rs, count, each, omega arith, counted, same)
 
+-- after a record the frame is at its end, or records and an END are held again
 pub next_held : (frame : List ℕ) (place next : ℕ) → AreRecords (drop place frame) → next ≤ length frame
     → ((first : Rec) (records : List Rec) (count : ℕ) → IsFramed first → AllByRecursion IsFramed records → IsCount count → drop place frame ≡ closing (first ∷ records) count → drop next frame ≡ kept records count)
     → (next ≡ length frame) ⊎ AreRecords (drop next frame)
@@ -133,6 +143,7 @@ next_held frame place next are within gives =
     let s = stood (drop place frame) are in
     kept_records frame next s.records s.count within s.each s.counted (gives s.first s.records s.count s.framed s.each s.counted s.split)
 
+-- the bytes of a frame are records and their END
 pub are_records : (held : List ℕ) → IsFrameBytes held → AreRecords held
 unfolding frame_bytes
 are_records held is = (is.0, length is.0, is.1.each, is.1.some, record { some = is.1.some; few = is.1.few }, is.2)
@@ -141,6 +152,7 @@ are_records held is = (is.0, length is.0, is.1.each, is.1.some, record { some = 
 abbrev pub GivesFirst : Reader → Reader → Outline → ℕ → Type 0
 GivesFirst old new outline at = (first : Rec) (records : List Rec) (count : ℕ) → IsFramed first → AllByRecursion IsFramed records → IsCount count → old.held ≡ closing (first ∷ records) count → (outline ≡ outline_of first) × IsGiven old new (first, at) first records count
 
+-- an outline that is given is that of some record
 pub is_outline : (old new : Reader) (outline : Outline) (at : ℕ) → AreRecords old.held → GivesFirst old new outline at → IsSomeOutline outline
 is_outline old new outline at are law = let s = stood old.held are in (s.first, (law s.first s.records s.count s.framed s.each s.counted s.split).0)
 

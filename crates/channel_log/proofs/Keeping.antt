@@ -37,15 +37,18 @@ loads size block found n end is =
 abbrev kept_at : ℕ → ℕ → List ℕ → Kept
 kept_at file at bytes = record { file = file; from = at; bytes = bytes }
 
+-- from the same block the same is kept
 pub from_items : (file at filled : ℕ) (a b : List ℕ) → a ≡ b → kept_at file at (take filled a) ≡ kept_at file at (take filled b)
 from_items file at filled a b same = ap (λ (l : List ℕ). kept_at file at (take filled l)) same
 
+-- what is kept of a filled block is what was found, as far as its size and the end allow
 pub load_is : (size file at : ℕ) (block into found : List ℕ) (n end filled : ℕ) → n ≡ min size (length found) → into ≡ take n found ++ drop n block → filled ≡ min n (end - at)
     → kept_at file at (take filled into) ≡ kept_at file at (take (end - at) (take size found))
 load_is size file at block into found n end filled is read few =
     ap (λ (l : List ℕ). kept_at file at (take filled l)) read
     ∙ (ap (λ (m : ℕ). kept_at file at (take m (take n found ++ drop n block))) few ∙ ap (λ (l : List ℕ). kept_at file at l) (loads size block found n (end - at) is))
 
+-- of two fronts of a list it does not matter which is taken first
 pub takes_turned : (n m : ℕ) (xs : List ℕ) → take n (take m xs) ≡ take m (take n xs)
 takes_turned n m xs = by_size (cases_lt n m)
   where
@@ -67,15 +70,18 @@ piece_loaded size at end bytes part is = by_place (cases_lt end at) ∙ ap (λ (
         takes_turned (end - at) size (drop at bytes)
         ∙ ap (λ (l : List ℕ). take size l) (sym (drop-take at (end - at) bytes) ∙ ap (λ (n : ℕ). drop at (take n bytes)) whole)
 
+-- what is kept of a file's bytes below an end is a block of that part
 pub block_is : (size : ℕ) (k : Kept) (file at : ℕ) (part : ℕ → List ℕ) (bytes : List ℕ) (end : ℕ) → take end bytes ≡ part file → k ≡ kept_at file at (take (end - at) (take size (drop at bytes)))
     → k ≡ kept_at file at (take size (drop at (part file)))
 block_is size k file at part bytes end below is = is ∙ ap (λ (l : List ℕ). kept_at file at l) (piece_loaded size at end bytes (part file) below)
 
 -- a block of a part
 module _ (size : ℕ) (k : Kept) (file at : ℕ) (part : ℕ → List ℕ) (is : k ≡ record { file = file; from = at; bytes = take size (drop at (part file)) }) where
+  -- a block of a part is a piece of it
   pub block_piece : IsPieceOf k part
   block_piece = subst (λ (kept : Kept). IsPieceOf kept part) (sym is) (own_length size (drop at (part file)))
 
+  -- a block has as much of the part from its start on as the part does
   pub block_has : (want : ℕ) → want ≤ size → at + want ≤ length (part file) → HasThere k 0 (part file) at want
   block_has want few within = subst (λ (kept : Kept). HasThere kept 0 (part file) at want) (sym is) (record {
     long = omega (arith, within, few, length-take size (drop at (part file)), length-drop at (part file));
@@ -102,6 +108,7 @@ kept_has k file at want part covers piece = record {
     there : k.from + (at - k.from) ≡ at
     there = omega (arith, covers.low)
 
+-- what is kept of parts of files is kept of longer parts
 pub piece_grows : PieceGrows
 piece_grows k part longer grows piece =
     let more : List ℕ = (grows k.file).0 in

@@ -68,9 +68,11 @@ cut_whole read size f is front long = λ g gate behind is' same.
     let rest : [] ≡ gate ∷ behind = append_cancel_left (frame_bytes f) [] (gate ∷ behind) (both ∙ ap (λ (h : List Rec). frame_bytes h ++ gate ∷ behind) (sym one)) in
     cc
 
+-- where no frame begins, none begins with a next commit byte
 pub cut_part : (read : List ℕ) → (BeginsFrame read → ⊥) → OpensNone read
 cut_part read none = λ frame gate behind is same. none (frame, gate ∷ behind, is, same)
 
+-- bytes that begin no frame, whatever follows, open none either
 pub cut_bad : (read : List ℕ) → ((more : List ℕ) → BeginsFrame (read ++ more) → ⊥) → (more : List ℕ) → OpensNone (read ++ more)
 cut_bad read none more = cut_part (read ++ more) (none more)
 
@@ -79,6 +81,7 @@ pub first_open : (read : List ℕ) → 1 ≤ length read → get_or read 0 0 ≡
 first_open [] some one = absurd (omega (arith, some))
 first_open (b ∷ l) some one = ap (λ (x : ℕ). x ∷ l) one ∙ ap (λ (t : List ℕ). 1 ∷ t) (sym (take_all (length (b ∷ l) - 1) l (omega arith)))
 
+-- bytes whose first one is not 1 begin with a closed commit byte
 pub not_open : (read : List ℕ) → 1 ≤ length read → get_or read 0 0 ≢ 1 → IsClosed read
 not_open [] some other = absurd (omega (arith, some))
 not_open (b ∷ l) some other = (some, λ o. other (head_of b 1 l o.0 o.1))
@@ -87,11 +90,13 @@ not_open (b ∷ l) some other = (some, λ o. other (head_of b 1 l o.0 o.1))
 pub rest_of : (xs items : List ℕ) (i : ℕ) → xs ≡ items → take (length xs - i) (drop i xs) ≡ drop i items
 rest_of xs items i same = take_rest xs i ∙ ap (drop i) same
 
+-- what follows from a fault's place holds where the fault is
 pub bad_maps : (e : FrameRefused) (P Q : ℕ → ℕ → Type 0) → ((file at : ℕ) → P file at → Q file at) → WhereBad e P → WhereBad e Q
 bad_maps refusals.DiskFault P Q maps is = tt
 bad_maps (refusals.BadLog file at) P Q maps is = maps file at is
 bad_maps refusals.NoMemory P Q maps is = tt
 
+-- bytes whose length is not 0 are some
 pub some_bytes : (read : List ℕ) → (length read == 0) ≡ false → 1 ≤ length read
 some_bytes [] is = let e : true ≡ false = is in cc
 some_bytes (b ∷ l) is = omega arith
@@ -149,6 +154,7 @@ bad_on told later file gate size rest start place len e old read same whole some
     ))
     bad
 
+-- a commit byte that was read as closed is not open in the file
 pub closed_after : (read : List ℕ) (gate : ℕ) (bytes : List ℕ) → IsFront read gate bytes → IsClosed read → AfterOpen (drop gate bytes) (λ rest. Unit {0}) → ⊥
 closed_after [] gate bytes front closed o = omega (arith, closed.0)
 closed_after (b ∷ l) gate bytes front closed o =

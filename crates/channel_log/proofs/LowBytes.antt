@@ -20,6 +20,7 @@ Low b = b < 256
 abbrev pub AreLow : List ℕ → Type 0
 AreLow bytes = AllByRecursion Low bytes
 
+-- low bytes and more low bytes after them are all low
 pub low-append : (a b : List ℕ) → AreLow a → AreLow b → AreLow (a ++ b)
 low-append [] b first later = later
 low-append (x ∷ a) b first later = (first.0, low-append a b first.1 later)
@@ -83,6 +84,7 @@ low_event event texts body =
     (low-append (u32_bytes (length event.headers)) (flat_map header_bytes event.headers) (low_u32 (length event.headers)) (low_headers event.headers texts))
     (low_counted event.body (recursion_from_All Low event.body body))
 
+-- a record is spelled in low bytes
 pub low_record : (rec : Rec) → HasFields rec → AreLow (spelling rec)
 low_record (Put txn event) has = (omega arith, low-append (u64_bytes txn) (u32_bytes (size event) ++ event_bytes event) (low_u64 txn) (low-append (u32_bytes (size event)) (event_bytes event) (low_u32 (size event)) (low_event event has.1.texts has.2)))
 low_record (Take txn number) has = (omega arith, low-append (u64_bytes txn) (u64_bytes number) (low_u64 txn) (low_u64 number))
@@ -95,6 +97,7 @@ low_records : (records : List Rec) → AllByRecursion IsFramed records → AreLo
 low_records [] each = tt
 low_records (rec ∷ records) each = low-append (spelling rec) (record_bytes records) (low_record rec each.0.fields) (low_records records each.1)
 
+-- all bytes of a frame are low
 pub low_frame : (frame : List Rec) → IsFrame frame → AreLow (frame_bytes frame)
 unfolding frame_bytes
 low_frame frame is = low-append (record_bytes frame) (spelling (End (length frame))) (low_records frame is.each) (low_record (End (length frame)) is.few)
@@ -120,6 +123,7 @@ within_front (x ∷ xs) ys (f ∷ front) rest low same ends =
     tail_of : (a b : ℕ) (u v : List ℕ) → a ∷ u ≡ b ∷ v → u ≡ v
     tail_of a b u v same = cc
 
+-- any bytes are split into a low front and what comes after it
 pub low_front : (bytes : List ℕ) → (front : List ℕ) × (rest : List ℕ) × IsLowFront bytes front rest
 low_front [] = ([], [], record { split = refl; low = tt; ends = λ b more is. absurd (nothing b more is) })
   where

@@ -11,6 +11,7 @@ use Rattle.event_core.specs.Numbers.{u16_bytes, u32_bytes}
 use Rattle.channel_log.specs.Frames.{header}
 use Rattle.channel_log.specs.Writer.{IsBlank, IsReady, IsUnused, file_of}
 
+-- a header has 16 bytes
 pub length-header : (birth number : ℕ) → length (header birth number) ≡ 16
 unfolding header u16_bytes u32_bytes
 length-header birth number = refl
@@ -61,6 +62,7 @@ module _ (birth number : ℕ) (text : List ℕ) (is_text : text ≡ header birth
     making : (r : Result (Unit {0}) Failed) (t u : Told) → o0 ≡ Some t → Leads (On (Log number) Make) r t u → Changes (Log number) IsBlank 0 t u
     making r t u is leads = changes_on Make r t t u (Log number) IsBlank 0 None Gone (at t is) (law t is) refl (changes_start t (Log number) IsBlank None Gone (at t is) unmade) leads under_making
 
+    -- however the make ends, a crash leaves no such file, or one that counts as empty
     pub open1 : (r : Result (Unit {0}) Failed) → Does (On (Log number) Make) r o0 o1 → Tells o0 o1 Opens
     open1 r does = tells_more o0 o1 (Leads (On (Log number) Make) r) Opens (λ t u i0 i1 leads. more t u (making r t u i0 leads)) does
 
@@ -71,9 +73,11 @@ module _ (birth number : ℕ) (text : List ℕ) (is_text : text ≡ header birth
       writing : (r : Result (Unit {0}) Failed) (t u v : Told) → o1 ≡ Some u → So 0 Made t u → Leads (On (Log number) (Write 0 text)) r u v → Changes (Log number) IsBlank 0 t v
       writing r t u v is so leads = changes_on (Write 0 text) r t u v (Log number) IsBlank 0 _ _ so.place (law1 u is) tt so.since leads under_writing
 
+      -- after the make the file is there and can be written
       pub place1 : WhereTold o1 (λ u. (bytes : List ℕ) × (u.reads (Log number) ≡ Some bytes) × (0 ≤ length bytes))
       place1 u is = let b = back o0 o1 (So 0 Made) (made does1) u is in ([], b.2.place.reads, omega arith)
 
+      -- so it is however the write of the header ends
       pub open2 : (r : Result (Unit {0}) Failed) → Does (On (Log number) (Write 0 text)) r o1 o2 → Tells o0 o2 Opens
       open2 r does = follows o0 o1 o2 (So 0 Made) (Leads (On (Log number) (Write 0 text)) r) Opens (λ t u v i0 i1 i2 so leads. more t v (writing r t u v i1 so leads)) (made does1) does
 
@@ -86,14 +90,17 @@ module _ (birth number : ℕ) (text : List ℕ) (is_text : text ≡ header birth
           }) (made does1) does
 
       module _ (o3 : Option Told) (law2 : Law o2) (does2 : Does (On (Log number) (Write 0 text)) all_done o1 o2) where
+        -- after the write of the header the file is there and can be synced
         pub place2 : WhereTold o2 (λ u. (bytes : List ℕ) × (u.reads (Log number) ≡ Some bytes))
         place2 u is = let b = back o0 o2 (So 0 Written) (written does2) u is in (text, b.2.place.reads)
 
+        -- so it is however the sync ends
         pub open3 : (r : Result (Unit {0}) Failed) → Does (On (Log number) Sync) r o2 o3 → Tells o0 o3 Opens
         open3 r does =
             follows o0 o2 o3 (So 0 Written) (Leads (On (Log number) Sync) r) Opens
             (λ t u v i0 i1 i2 so leads. changes_on Sync r t u v (Log number) IsBlank 0 _ _ so.place (law2 u i1) tt so.since leads under_writing) (written does2) does
 
+        -- after all three calls the file is at rest with its header and no frames
         pub begun : Does (On (Log number) Sync) all_done o2 o3 → IsReady o3 birth number 16 []
         begun does u is =
             let s = back o2 o3 (Leads (On (Log number) Sync) all_done) does u is in

@@ -19,6 +19,7 @@ use Rattle.channel_log.specs.declared.pointers.ReadRefused.{ReadRefused}
 use Rattle.channel_log.specs.declared.pointers.ReadRefused.TheVariants.{Damaged, NoMemory, ReadFault}
 use Rattle.channel_log.specs.Window.{HasThere, IsPieceOf, Kept}
 
+-- a PUT that stands at a pointer of the part stands in what is kept of it
 pub put_there : (k : Kept) (place : ℕ) (part : List ℕ) (p : Pointer) (event : Content) → PutAt part p event → HasThere k place part p.at (p.length + 13)
     → PutAt (drop place k.bytes) (front p) event
 put_there k place part p event at there =
@@ -37,9 +38,11 @@ put_there k place part p event at there =
       limits = at.limits;
     }
 
+-- no bytes are a piece of any part
 pub empty_piece : (k : Kept) (part : ℕ → List ℕ) → k.bytes ≡ [] → IsPieceOf k part
 empty_piece k part none = none ∙ sym (ap (λ (l : List ℕ). take (length l) (drop k.from (part k.file))) none)
 
+-- an option that is none has nothing
 pub none_some : {A : Type 0} (o : Option A) (a : A) → o ≡ None → o ≡ Some a → ⊥
 none_some o a none some = cc
 
@@ -55,6 +58,7 @@ found_in bytes rec p (Err ReadFault) read spells zero is = absurd is
 found_in bytes rec p (Err (Damaged kept found)) read spells zero is = (λ event at. no_put bytes rec p event read is.2 zero at, length_in bytes rec p found read spells zero is.3)
 found_in bytes rec p (Err NoMemory) read spells zero is = absurd is
 
+-- what a record gives for a pointer has the pointer's length, or is damage that names it
 pub length_of : (rec : Rec) (length' : ℕ) (r : Result Content ReadRefused) → IsEventOf rec length' r → IsOfLength length' r
 length_of rec length' (Ok event) is = is.1
 length_of rec length' (Err ReadFault) is = absurd is
@@ -80,6 +84,7 @@ uncut cut none is at = differ cut none (is.1 at)
     differ true one two = cc
     differ false one two = cc
 
+-- where what was read is not cut short, what is kept of it is not either
 pub uncut_kept : (read kept : List ℕ) → read ≡ kept → (read_of read ≡ Part → ⊥) → read_of kept ≡ Part → ⊥
 uncut_kept read kept same none cut = none (ap read_of same ∙ cut)
 
@@ -107,6 +112,7 @@ seen_uncut bytes piece m p is uncut n event at = by_size (cases_lt m (n + 13))
         absurd (uncut (ap read_of cut ∙ cut-part (Put at.txn event) m at.fields at.limits (omega (arith, short, at.long))))
     by_size (inr room) = seen_long bytes piece m q event is room at
 
+-- damage is not a fault of a read
 pub not_fault : (r : Result Content ReadRefused) (kept : ℕ) (found : Option ℕ) → r ≡ Err (Damaged kept found) → r ≡ Err ReadFault → ⊥
 not_fault r kept found one two = cc
 

@@ -38,6 +38,7 @@ put_grows bytes more p event at = record {
 same_event : (t u : ℕ) (a b : Content) (m n : ℕ) → Complete (Put t a) m ≡ Complete (Put u b) n → a ≡ b
 same_event t u a b m n same = cc
 
+-- no two events stand at one pointer
 pub one_event : OneEventStands
 one_event bytes p event other at at' =
     let one = put_read bytes p event at in
@@ -51,6 +52,7 @@ opened-append [] b = refl
 opened-append (frame ∷ a) b =
     ap (λ (l : List ℕ). 1 ∷ frame_bytes frame ++ l) (opened-append a b) ∙ ap (λ (l : List ℕ). 1 ∷ l) (sym (append_assoc (frame_bytes frame) (opened a) (opened b)))
 
+-- the settled part of a file with more frames goes on with their bytes
 pub part-append : (birth number : ℕ) (a b : List (List Rec)) → settled_part birth number (a ++ b) ≡ settled_part birth number a ++ opened b
 part-append birth number a b = ap (λ (l : List ℕ). header birth number ++ l) (opened-append a b) ∙ sym (append_assoc (header birth number) (opened a) (opened b))
 
@@ -65,6 +67,7 @@ put_behind : (birth number : ℕ) (frames : List (List Rec)) (frame : List Rec) 
 put_behind birth number frames frame p event at =
     subst (λ (l : List ℕ). PutAt l p event) (sym (part-append birth number frames (frame ∷ []))) (put_grows (settled_part birth number frames) (opened (frame ∷ [])) p event at)
 
+-- a PUT in the settled part stays while a frame is added, and with that frame
 pub put_stays : PutStays
 put_stays birth number frames frame p event at = (by_file, put_behind birth number frames frame p event at)
   where
@@ -108,6 +111,7 @@ opened_put front number at before behind txn event fields limits is =
       limits = limits;
     }
 
+-- a PUT that waits stands at its pointer once its frame is there
 pub pending_stands : PendingStands
 pending_stands birth number frames before behind txn event fields limits =
     let front : List ℕ = settled_part birth number frames in
@@ -120,6 +124,7 @@ still_file : (file : Option (List ℕ)) (bytes : List ℕ) (p : Pointer) (event 
 still_file None bytes p event may at = absurd may
 still_file (Some b) bytes p event may at = subst (λ (l : List ℕ). PutAt l p event) (sym (stable_only bytes b may)) at
 
+-- what stands at a pointer stands there in each image that a crash leaves
 pub each_image : StandsInEachImage
 each_image t birth number frames frame p event image (inl here) is own =
     subst (λ (n : ℕ). IsSomeAnd (image (Log n)) (λ bytes. PutAt bytes p event)) (sym here.0) ((put_stays birth number frames frame p event here.1).0 (image (Log number)) own)

@@ -27,6 +27,7 @@ pub record IsSound (rec : Rec) : Type 0 where
   pub fields : HasFields rec
   pub limits : IsWithinLimits rec
 
+-- a record that may stand in a frame has a spelling
 pub sound : (rec : Rec) → IsFramed rec → IsSound rec
 sound rec framed = record { fields = framed.fields; limits = framed.limits }
 
@@ -70,6 +71,7 @@ pub record Leads (more : List Rec) (n : ℕ) (rest : List ℕ) : Type 0 where
   pub behind : List ℕ
   pub split : closing more n ++ rest ≡ spelling rec ++ behind
 
+-- the rest of a frame begins with a record, be it its END
 pub leads : (more : List Rec) (n : ℕ) (rest : List ℕ) → AllByRecursion IsFramed more → 1 ≤ n → n < 2 ^ 32 → Leads more n rest
 leads [] n rest each some few = record { rec = End n; is = record { fields = few; limits = some }; behind = rest; split = refl }
 leads (m ∷ ms) n rest each some few = record {
@@ -94,6 +96,7 @@ no_end (CommitPut txn first count) n is same = let e = same in cc
 no_end (CommitTake txn count) n is same = let e = same in cc
 no_end (End count) n is same = is
 
+-- where records stand in front of a frame's bytes, the frame has them and then more
 pub agrees : (records frame : List Rec) (n : ℕ) (tail rest : List ℕ) → AllByRecursion IsFramed records → AllByRecursion IsFramed frame → 1 ≤ n → n < 2 ^ 32
     → record_bytes records ++ tail ≡ closing frame n ++ rest → Agrees records frame n tail rest
 agrees [] frame n tail rest each each' some few same = record { more = frame; is = refl; each = each'; left = same }
@@ -117,6 +120,7 @@ pub record ReadOn (bytes : List ℕ) (at count : ℕ) : Type 0 where
   pub within : at ≤ length bytes
   pub is : take at bytes ≡ record_bytes records
 
+-- at the start no record was read
 pub read_none : (bytes : List ℕ) → ReadOn bytes 0 0
 read_none bytes = record { records = []; each = tt; counted = refl; within = omega arith; is = refl }
 
@@ -134,6 +138,7 @@ pub record Stands (bytes : List ℕ) (at kind n : ℕ) : Type 0 where
   pub long : n ≡ record_length rec
   pub is : take n (drop at bytes) ≡ spelling rec
 
+-- a whole record that was read stands at its place
 pub stands : (bytes : List ℕ) (at kind n : ℕ) → at ≤ length bytes → All (λ b. b < 256) bytes → read_of (drop at bytes) ≡ Whole kind n → Stands bytes at kind n
 stands bytes at kind n within all read =
     let w = whole_of (outcome_of (drop at bytes)) kind n read in
@@ -185,6 +190,7 @@ told_is bytes at m told few split is =
     ∙ ap (λ (k : ℕ). u32_of (take k (u32_bytes m ++ drop 5 (drop at bytes)))) (sym (length-u32_bytes m))
     ∙ ap u32_of (take-append_seam (u32_bytes m) (drop 5 (drop at bytes))) ∙ u32_of-u32_bytes m few
 
+-- a record of END's kind is the frame's END, with the count that was read there
 pub ends_at : (bytes : List ℕ) (at kind n told : ℕ) → Stands bytes at kind n → kind ≡ 6 → told ≡ u32_of (take 4 (drop (at + 1) bytes)) → EndsAt bytes at n told
 ends_at bytes at kind n told here six is =
     let e = is_end here.rec (sym here.kind_is ∙ six) in
@@ -225,6 +231,7 @@ end_agrees (x ∷ xs) n m behind rest each some few is same =
     let e : End m ≡ x = one-spelling (End m) x behind (closing xs n ++ rest) is.fields is.limits each.0.fields each.0.limits (same ∙ closing-split x xs n rest) in
     absurd (no_end x m each.0.no_end (sym e))
 
+-- where END tells another count than that of the records before it, no frame begins
 pub wrong_count : (bytes : List ℕ) (at count n told : ℕ) → ReadOn bytes at count → EndsAt bytes at n told → told ≢ count → (more : List ℕ) → BeginsFrame (bytes ++ more) → ⊥
 wrong_count bytes at count n told on end other more b =
     let a = goes_on bytes more at count b.0 b.1 on b.2 b.3 in
@@ -253,12 +260,14 @@ cut_short bytes at count on part = (
   },
 )
 
+-- where a record is at fault, no frame begins, whatever follows
 pub at_fault : (bytes : List ℕ) (at count fault : ℕ) → ReadOn bytes at count → read_of (drop at bytes) ≡ Bad fault → (more : List ℕ) → BeginsFrame (bytes ++ more) → ⊥
 at_fault bytes at count fault on bad more b =
     let a = goes_on bytes more at count b.0 b.1 on b.2 b.3 in
     let l = leads a.more (length b.0) b.1 a.each b.2.some b.2.few in
     not_bad (drop at bytes) more l.behind l.rec fault l.is bad (a.left ∙ l.split)
 
+-- a record has at least 5 bytes
 pub some_length : (rec : Rec) → 5 ≤ record_length rec
 some_length (Put txn event) = omega arith
 some_length (Take txn number) = omega arith
@@ -267,10 +276,12 @@ some_length (CommitPut txn first count) = omega arith
 some_length (CommitTake txn count) = omega arith
 some_length (End count) = omega arith
 
+-- there are no more records than bytes of theirs
 pub length-records : (records : List Rec) → length records ≤ length (record_bytes records)
 length-records [] = omega arith
 length-records (r ∷ records) = omega (arith, length-records records, length-append (spelling r) (record_bytes records), length-spelling r, some_length r)
 
+-- no more records were read than bytes
 pub few_read : (bytes : List ℕ) (at count : ℕ) → ReadOn bytes at count → count ≤ at
 few_read bytes at count on = omega (arith, length-records on.records, on.counted, ap length on.is, length-take at bytes)
 
@@ -278,5 +289,6 @@ few_read bytes at count on = omega (arith, length-records on.records, on.counted
 pub read_at : (bytes : List ℕ) (at : ℕ) (read : Read) → read ≡ read_of (take (length bytes - at) (drop at bytes)) → read_of (drop at bytes) ≡ read
 read_at bytes at read is = sym (is ∙ ap read_of (take_all (length bytes - at) (drop at bytes) (omega (arith, length-drop at bytes))))
 
+-- where the byte at each place is below 256, all bytes are
 pub all_bytes : (bytes : List ℕ) → ((i : ℕ) → get_or bytes i 0 < 256) → All (λ b. b < 256) bytes
 all_bytes bytes are k d below = subst (λ (b : ℕ). b < 256) (get_or_default bytes k 0 d below) (are k)

@@ -116,6 +116,7 @@ first_byte : (bytes : List ℕ) (at : ℕ) (frames : List (List Rec)) (fault : O
 first_byte bytes at frames fault (inl commits) = let c = commits.0 in let f = first_of frames (c.gate ∷ c.rest) (commits_stops (drop at bytes) frames c) in (f.0, f.1, c.split ∙ f.2)
 first_byte bytes at frames fault (inr breaks) = let b = breaks.0 in let f = first_of frames (1 ∷ b.rest) (breaks_stops (drop at bytes) frames b) in (f.0, f.1, b.split ∙ f.2)
 
+-- a reader before a commit byte has not reached the end of its file
 pub below : (old : Reader) (bytes : List ℕ) (items : List (Rec × ℕ)) (fault : Option ℕ) → Remains old bytes items fault → old.held ≡ [] → old.blank ≡ false → old.at < old.size
 below old bytes items fault remains empty full =
     let b = between old bytes items fault remains empty full in
@@ -128,6 +129,7 @@ ends_closed bytes at (f ∷ fs) fault (inl commits) closed = absurd (closed ((fr
 ends_closed bytes at [] fault (inr breaks) closed = absurd (closed (breaks.0.rest, breaks.0.split, tt))
 ends_closed bytes at (f ∷ fs) fault (inr breaks) closed = absurd (closed ((frame_bytes f ++ opened fs) ++ 1 ∷ breaks.0.rest, breaks.0.split, tt))
 
+-- where the commit byte is closed, nothing remains and there is no fault
 pub ended : (old : Reader) (bytes : List ℕ) (items : List (Rec × ℕ)) (fault : Option ℕ) → Remains old bytes items fault → old.held ≡ [] → old.blank ≡ false → (AfterOpen (drop old.at bytes) (λ rest. Unit {0}) → ⊥) → (items ≡ []) × (fault ≡ None)
 ended old bytes items fault remains empty full closed =
     let b = between old bytes items fault remains empty full in
@@ -148,6 +150,7 @@ breaks_here bytes at (f ∷ fs) fault (inr breaks) rest same none =
     let first = first_of fs x (breaks_stops (drop at bytes) (f ∷ fs) b) in
     absurd (none f first.0 first.1 b.each.0 (tail_of 1 1 rest (frame_bytes f ++ first.0 ∷ first.1) (sym same ∙ b.split ∙ opened-cons f fs x ∙ ap (λ (l : List ℕ). 1 ∷ (frame_bytes f ++ l)) first.2)))
 
+-- where an open commit byte has no frame behind it, only this fault remains
 pub broken : (old : Reader) (bytes : List ℕ) (items : List (Rec × ℕ)) (fault : Option ℕ) → Remains old bytes items fault → old.held ≡ [] → old.blank ≡ false → AfterOpen (drop old.at bytes) OpensNone → (items ≡ []) × (fault ≡ Some old.at)
 broken old bytes items fault remains empty full behind =
     let b = between old bytes items fault remains empty full in
@@ -208,6 +211,7 @@ given_of old new bytes items fault given (first ∷ records) count frames long a
 not_empty : (held : List ℕ) → AreRecords held → held ≡ [] → ⊥
 not_empty held are empty = omega (arith, length-closing are.0 are.1, ap length are.5, ap length empty)
 
+-- a reader that gave the first record it holds gave the first of those that remained
 pub gives : (old new : Reader) (bytes : List ℕ) (items : List (Rec × ℕ)) (fault : Option ℕ) (given : Rec × ℕ) → AreRecords old.held → Remains old bytes items fault
     → ((first : Rec) (records : List Rec) (count : ℕ) → IsFramed first → AllByRecursion IsFramed records → IsCount count → old.held ≡ closing (first ∷ records) count → IsGiven old new given first records count)
     → Gives (Some given) new bytes items fault

@@ -10,6 +10,7 @@ use Rattle.channel_log.specs.Reader.{AfterOpen, AreRecords, HasFile, IsAhead, Is
 abbrev pub part : ℕ → ℕ → List ℕ → List ℕ
 part place stop read = drop place (take stop read)
 
+-- how many bytes there are from a place up to a stop
 pub length-part : (place stop : ℕ) (read : List ℕ) → stop ≤ length read → length (part place stop read) ≡ stop - place
 length-part place stop read known = omega (arith, known, length-drop place (take stop read), length-take stop read)
 
@@ -20,6 +21,7 @@ pub record Stood (read : List ℕ) (place size : ℕ) : Type 0 where
   pub frame : IsFrameBytes (part (place + 1) (place + 1 + size) read)
   pub opens : AfterOpen (drop place read) (λ rest. Opens rest (part (place + 1) (place + 1 + size) read))
 
+-- where a frame was found behind the commit byte at a place, its bytes stand there
 pub stood : (read : List ℕ) (place size : ℕ) → AfterOpen (drop place read) (OpensAt size) → Stood read place size
 stood read place size a =
     let rest : drop (place + 1) read ≡ a.0 = sym (drop-drop 1 place read) ∙ ap (drop 1) a.1 in
@@ -44,12 +46,14 @@ stood_ahead read place size at bytes s front =
 pub at_end : (place stop : ℕ) (read : List ℕ) → place ≤ stop → stop ≤ length read → part place stop read ≡ [] → place ≡ stop
 at_end place stop read within known empty = omega (arith, within, length-part place stop read known, ap length empty)
 
+-- with nothing held, what was read from the place on is a front of the file from the reader's offset on
 pub front_there : (r : Reader) (place stop : ℕ) (read bytes : List ℕ) → place ≤ stop → stop ≤ length read → part place stop read ≡ r.held → drop stop read ≡ r.ahead → r.held ≡ [] → IsAhead r bytes → IsFront (drop place read) r.at bytes
 front_there r place stop read bytes within known held ahead empty is =
     let there : drop place read ≡ r.ahead = ap (λ (k : ℕ). drop k read) (at_end place stop read within known (held ∙ empty)) ∙ ahead in
     let from : r.at + length r.held ≡ r.at = omega (arith, ap length empty) in
     subst (λ (l : List ℕ). IsFront l r.at bytes) (sym there) (subst (λ (n : ℕ). IsFront r.ahead n bytes) from is)
 
+-- the next place is the stop, or records and an END stand from there up to it
 pub ends_or_holds : (read : List ℕ) (next stop : ℕ) → stop ≤ length read → (next ≡ length (take stop read)) ⊎ AreRecords (part next stop read) → (next ≡ stop) ⊎ AreRecords (part next stop read)
 ends_or_holds read next stop known (inl end) = inl (omega (arith, end, known, length-take stop read))
 ends_or_holds read next stop known (inr are) = inr are
@@ -63,6 +67,7 @@ front_here told inside now place stop read bytes same within known held ahead em
       front_there inside place stop read bytes within known held ahead none (subst (λ (r : Reader). IsAhead r bytes) (sym same) is),
     )
 
+-- a fault found from this place on is the fault of the reader that stands there
 pub bad_here : (told : Option Told) (e : FrameRefused) (inside now : Reader) (place stop : ℕ) (read : List ℕ) → inside ≡ now → place ≤ stop → stop ≤ length read → part place stop read ≡ inside.held → drop stop read ≡ inside.ahead → now.held ≡ [] → inside.blank ≡ false
     → WhereBad e (λ f at. (f ≡ inside.file) × (at ≡ inside.at) × ((bytes : List ℕ) → HasFile told inside.file bytes → length bytes ≡ inside.size → IsFront (drop place read) inside.at bytes → AfterOpen (drop inside.at bytes) OpensNone))
     → WhereBad e (λ f at. (f ≡ now.file) × (at ≡ now.at) × (now.blank ≡ false) × ((bytes : List ℕ) → HasFile told now.file bytes → length bytes ≡ now.size → IsAhead now bytes → AfterOpen (drop now.at bytes) OpensNone))

@@ -16,14 +16,17 @@ live_marked n m (l ∷ live) (inl here) = inl (by_test (l.number == n) ∙ here)
     by_test false = refl
 live_marked n m (l ∷ live) (inr there) = inr (live_marked n m live there)
 
+-- events that are left are still left when one is held no longer
 pub all_marked : (n : ℕ) (live : List Left) (numbers : List ℕ) → AreLive live numbers → AreLive (marked n false live) numbers
 all_marked n live [] all = tt
 all_marked n live (m ∷ numbers) all = (live_marked n m live all.0, all_marked n live numbers all.1)
 
+-- taking out two lists of events is taking out one and then the other
 pub lacking-append : (a b : List ℕ) (live : List Left) → lacking (a ++ b) live ≡ lacking b (lacking a live)
 lacking-append [] b live = refl
 lacking-append (n ∷ a) b live = lacking-append a b (lasting n live)
 
+-- numbers none of which is named twice, in two parts: the second stands in what the first leaves
 pub apart-append : (a b : List ℕ) (live : List Left) → AreApart live (a ++ b) → AreApart live a × AreApart (lacking a live) b
 apart-append [] b live apart = (tt, apart)
 apart-append (n ∷ a) b live apart =
@@ -38,9 +41,11 @@ pub record IsPart (first : ℕ) (pointers : List Pointer) (old : Index) (next : 
   pub live : ring.live ++ placed next rest ≡ old.live ++ placed first pointers
   pub room : length ring.live + length rest ≡ length old.live + length pointers
 
+-- before any event is added, all are still to come
 pub part_all : (first : ℕ) (pointers : List Pointer) (old : Index) → old.top ≤ first → IsPart first pointers old first pointers old
 part_all first pointers old above = record { slots = refl; top = above; number = refl; live = refl; room = refl }
 
+-- when none is still to come, all are added
 pub part_none : (first : ℕ) (pointers : List Pointer) (old : Index) (next : ℕ) (rest : List Pointer) (ring : Index) → rest ≡ [] → IsPart first pointers old next rest ring → IsAppended first pointers old ring
 part_none first pointers old next rest ring none part =
     let done : IsPart first pointers old next [] ring = subst (λ (l : List Pointer). IsPart first pointers old next l ring) none part in
@@ -50,6 +55,7 @@ placed-append : (first : ℕ) (a b : List Pointer) → placed first (a ++ b) ≡
 placed-append first [] b = ap (λ (n : ℕ). placed n b) (omega arith)
 placed-append first (p ∷ a) b = ap (λ (l : List Left). record { number = first; pointer = p; held = false } ∷ l) (placed-append (first + 1) a b ∙ ap (λ (n : ℕ). placed (first + 1) a ++ placed n b) (omega arith))
 
+-- there are as many placed events as pointers
 pub length_placed : (first : ℕ) (pointers : List Pointer) → length (placed first pointers) ≡ length pointers
 length_placed first [] = refl
 length_placed first (p ∷ pointers) = omega (arith, length_placed (first + 1) pointers)

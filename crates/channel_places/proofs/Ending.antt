@@ -18,6 +18,7 @@ use Rattle.channel_places.specs.Ends.{one_if_staged}
 use Rattle.channel_places.proofs.Looking.{puts_length}
 use Rattle.channel_places.proofs.Opening.{entry_of_without, entry_of_without-other, length-without, rise-without, size-without, size_put}
 
+-- a number that is there as often is among both lists or neither
 pub among_same : (xs ys : List ℕ) (m : ℕ) → times m ys ≡ times m xs → is_among ys m ≡ is_among xs m
 among_same xs ys m is = from (among_times m xs) (among_times m ys)
   where
@@ -27,6 +28,7 @@ among_same xs ys m is = from (among_times m xs) (among_times m ys)
     from (inr a) (inl b) = absurd (omega (arith, a.1, b.1, is))
     from (inr a) (inr b) = b.0 ∙ sym a.0
 
+-- what is left looks the same where the same numbers are held
 pub left_same : (known : Known) (xs ys : List ℕ) (live : List Left) (items : List (ℕ × Content)) → ((m : ℕ) → is_among ys m ≡ is_among xs m) → LookLeft known xs live items → LookLeft known ys live items
 left_same known xs ys [] [] same look = tt
 left_same known xs ys [] (x ∷ items) same look = absurd look
@@ -84,6 +86,7 @@ pub record HasBoth (known : Known) (listed : Listed) (e : Option Entry) : Type 0
   pub e_is : e ≡ Some own
   pub look : LooksListed known listed own
 
+-- what a table has open is what the state has open
 pub both_of : (known : Known) (room : ℕ) (o : Option Open) (e : Option Entry) (listed : Listed) → LooksOpen known room o e → option_map (λ (q : Open). q.listed) o ≡ Some listed → HasBoth known listed e
 both_of known room None e listed look is = absurd (cc)
 both_of known room (Some o) None listed look is = absurd look
@@ -92,6 +95,7 @@ both_of known room (Some o) (Some e) listed look is = record { own = e; e_is = r
     some_same : (a b : Listed) → Some a ≡ Some b → a ≡ b
     some_same a b same = cc
 
+-- as many pointers as events, for what a transaction puts
 pub puts_size : (known : Known) (listed : Listed) (e : Entry) → LooksListed known listed e → length (puts_of listed) ≡ size_put e
 puts_size known (Puts pointers) (entry.Puts events) look = omega (arith, puts_length known pointers events look, length-append events [])
 puts_size known (Puts pointers) (entry.Takes numbers) look = absurd look
@@ -108,10 +112,12 @@ journal_push : (a : List Entry) (e : Entry) → IsJournal a → IsNotEmpty e →
 journal_push [] e all here = (here, tt)
 journal_push (x ∷ a) e all here = (all.0, journal_push a e all.1 here)
 
+-- the puts of two lists of staged transactions add up
 pub puts_in-append : (a b : List Listed) → puts_in (a ++ b) ≡ puts_in a + puts_in b
 puts_in-append [] b = omega arith
 puts_in-append (l ∷ a) b = omega (arith, puts_in-append a b)
 
+-- the puts that staging a transaction adds are its own
 pub puts_in-staged : (l : Listed) → puts_in (staged_of l) ≡ length (puts_of l)
 puts_in-staged (Puts []) = refl
 puts_in-staged (Puts (p ∷ pointers)) = omega arith
@@ -153,9 +159,11 @@ stage_looks settled known p s t n l now open_puts looks both has many staged put
     by_entry (Takes (k ∷ ks)) (entry.Takes []) is look same size = absurd (cc)
     by_entry (Takes (k ∷ ks)) (entry.Takes (j ∷ js)) is look same size = kept (Takes (k ∷ ks)) (entry.Takes (j ∷ js)) is look same (omega arith) size
 
+-- a transaction's puts are no more than all open puts
 pub open_fits : (settled known : Known) (p : Places) (s : State) (n : ℕ) (l : Listed) → Looks settled known p s → HasBoth known l (entry_of n s.opened) → length (puts_of l) ≤ p.open_puts
 open_fits settled known p s n l looks both = omega (arith, looks.open_puts, puts_size known l both.own both.look, size-without n s.opened both.own both.e_is)
 
+-- an open transaction's puts are counted by its list
 pub open_size : (o : Option Open) (l : Listed) → option_map (λ (q : Open). q.listed) o ≡ Some l → puts_of_open o ≡ length (puts_of l)
 open_size None l is = absurd (cc)
 open_size (Some o) l is = ap (λ (x : Listed). length (puts_of x)) (some_listed o.listed l is)
@@ -163,12 +171,14 @@ open_size (Some o) l is = ap (λ (x : Listed). length (puts_of x)) (some_listed 
     some_listed : (a b : Listed) → Some a ≡ Some b → a ≡ b
     some_listed a b same = cc
 
+-- a transaction adds at most one to what is staged
 pub one_staged : (l : Listed) → length (staged_of l) ≤ 1
 one_staged (Puts []) = omega arith
 one_staged (Puts (p ∷ pointers)) = omega arith
 one_staged (Takes []) = omega arith
 one_staged (Takes (n ∷ numbers)) = omega arith
 
+-- staging one transaction adds at most one frame
 pub one_more : (staged : List Listed) (l : Listed) → one_if_staged (staged ++ staged_of l) ≤ one_if_staged staged + 1
 one_more (x ∷ staged) l = omega arith
 one_more [] (Puts []) = omega arith
@@ -192,6 +202,7 @@ drop_looks settled known p s t n l open_puts looks both are has many puts =
         differ : false ≡ true → ⊥
         differ same = cc
 
+-- what was found of a transaction open for puts is puts
 pub puts_of_one : (o : Option Open) (l : Listed) → is_open true o ≡ true → option_map (λ (q : Open). q.listed) o ≡ Some l → is_puts l ≡ true
 puts_of_one None l is got = absurd (cc)
 puts_of_one (Some o) l is got = ap (λ (x : Listed). is_puts x) (sym (some_listed o.listed l got)) ∙ is

@@ -28,6 +28,7 @@ left_live known held (l ∷ live) (x ∷ items) n look some = from (eqb_tells x.
     from (inl here) more = inl (look.0.0 ∙ here.1)
     from (inr other) more = inr (more (omega (arith, some, other_number x.0 n other.1)))
 
+-- numbers named no more often than items have them are of events that are left
 pub all_live : (known : Known) (held : List ℕ) (live : List Left) (items : List (ℕ × Content)) (numbers : List ℕ) → LookLeft known held live items → ((m : ℕ) → times m numbers ≤ number_of m items) → AreLive live numbers
 all_live known held live items [] look within = tt
 all_live known held live items (n ∷ numbers) look within = (
@@ -67,6 +68,7 @@ pub record HasTaken (known : Known) (l : Listed) (e : Option Entry) : Type 0 whe
   pub taken : takes_of l ≡ numbers
   pub e_is : e ≡ Some (entry.Takes numbers)
 
+-- an open transaction that isn't puts has takes
 pub taken_of : (known : Known) (l : Listed) (e : Option Entry) → HasBoth known l e → is_puts l ≡ false → HasTaken known l e
 taken_of known l e both are = by_both l both.own both.look are both.e_is
   where
@@ -75,6 +77,7 @@ taken_of known l e both are = by_both l both.own both.look are both.e_is
     by_both (Takes numbers) (entry.Puts events) look are' is = absurd look
     by_both (Takes numbers) (entry.Takes taken) look are' is = record { numbers = taken; taken = look; e_is = is }
 
+-- what an open transaction took is still left
 pub takes_live : (settled known : Known) (p : Places) (s : State) (n : ℕ) (l : Listed) → Looks settled known p s → HasTaken known l (entry_of n s.opened) → AreLive p.live (takes_of l)
 takes_live settled known p s n l looks has =
     subst (λ (ns : List ℕ). AreLive p.live ns) (sym has.taken) (all_live settled (held_in s) p.live s.items has.numbers looks.left (λ m. omega (
@@ -85,6 +88,7 @@ takes_live settled known p s n l looks has =
       times-take m has.numbers,
     )))
 
+-- a transaction of takes is rolled back, and its events are free again
 pub drop_takes_looks : (settled known : Known) (p : Places) (s : State) (t : Table) (n : ℕ) (l : Listed) → Looks settled known p s → HasTaken known l (entry_of n s.opened) → HasAt n None p.opened t → length t + 1 ≡ length p.opened
     → Looks settled known (record p { live = freed (takes_of l) p.live; opened = t }) (close n s)
 drop_takes_looks settled known p s t n l looks has gone many =
@@ -127,6 +131,7 @@ drop_takes_looks settled known p s t n l looks has gone many =
       numbers = looks.numbers;
     }
 
+-- what was found of a transaction open for takes isn't puts
 pub takes_of_one : (o : Option Open) (l : Listed) → is_open false o ≡ true → option_map (λ (q : Open). q.listed) o ≡ Some l → is_puts l ≡ false
 takes_of_one None l is got = absurd (cc)
 takes_of_one (Some o) l is got = ap (λ (x : Listed). is_puts x) (sym (some_listed o.listed l got)) ∙ from (is_puts o.listed) is
@@ -138,6 +143,7 @@ takes_of_one (Some o) l is got = ap (λ (x : Listed). is_puts x) (sym (some_list
     from true isnt = absurd (cc)
     from false isnt = refl
 
+-- freeing events takes none of them out
 pub freed_length : (numbers : List ℕ) (live : List Left) → length (freed numbers live) ≡ length live
 freed_length [] live = refl
 freed_length (n ∷ numbers) live = freed_length numbers (marked n false live) ∙ marked_length n live

@@ -6,6 +6,7 @@ use Rattle.open_table.specs.declared.table.Item.TheVariants.{Take}
 use Rattle.event_core.specs.declared.journal.Entry.{Entry}
 use Rattle.channel_places.specs.Looks.{IsFewOpen, IsWithinRoom, KeepsPuts, Known, LooksOpen, pointers_at, pointers_of}
 
+-- a table that stays as it was keeps its puts
 pub keeps_same : (old new : Table) → new ≡ old → KeepsPuts old new
 keeps_same old new is txn = inl (ap (λ (t : Table). pointers_at t txn) is)
 

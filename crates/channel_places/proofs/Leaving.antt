@@ -19,6 +19,7 @@ use Rattle.channel_places.proofs.Freeing.{left_live}
 
 -- what is staged, by pointers and by events
 
+-- what is staged takes the same numbers, by pointers and by events
 pub takes_same : (known : Known) (listed : List Listed) (staged : List Entry) → LookStaged known listed staged → takes_in listed ≡ taken_numbers staged
 takes_same known [] [] look = refl
 takes_same known [] (e ∷ staged) look = absurd look
@@ -44,6 +45,7 @@ pointers_look known (Puts pointers ∷ listed) (entry.Takes numbers ∷ staged) 
 pointers_look known (Takes numbers ∷ listed) (entry.Puts events ∷ staged) look = absurd look.0
 pointers_look known (Takes numbers ∷ listed) (entry.Takes taken ∷ staged) look = pointers_look known listed staged look.1
 
+-- as many pointers are staged as puts are counted
 pub pointers_length : (listed : List Listed) → length (pointers_in listed) ≡ puts_in listed
 pointers_length [] = refl
 pointers_length (l ∷ listed) = omega (arith, pointers_length listed, length-append (puts_of l) (pointers_in listed))
@@ -70,6 +72,7 @@ left_lasting known held n (l ∷ live) (x ∷ items) look = from (eqb_tells l.nu
     from (inr another) (inl same) rest = absurd (another.1 (look.0.0 ∙ sym same.1))
     from (inr another) (inr other) rest = rw (another.0, other.0) (look.0, rest)
 
+-- without the events that leave, what is left looks like the items without theirs
 pub left_lacking : (known : Known) (held numbers : List ℕ) (live : List Left) (items : List (ℕ × Content)) → LookLeft known held live items → LookLeft known held (lacking numbers live) (without numbers items)
 left_lacking known held [] live items look = subst (λ (l : List (ℕ × Content)). LookLeft known held live l) (sym (without_none items)) look
 left_lacking known held (n ∷ numbers) live items look =
@@ -90,6 +93,7 @@ left_other known xs ys numbers live (x ∷ items) same look = by_test (is_among 
     by_test false is more [] look = absurd look
     by_test false is more (l ∷ live) look = ((look.0.0, look.0.1 ∙ sym (same x.0 is), look.0.2), more live look.1)
 
+-- numbers that are each of an event that is left, and none twice, are apart
 pub all_apart : (known : Known) (held : List ℕ) (live : List Left) (items : List (ℕ × Content)) (numbers : List ℕ) → LookLeft known held live items → ((m : ℕ) → times m numbers ≤ number_of m items) → ((m : ℕ) → times m numbers ≤ 1) → AreApart live numbers
 all_apart known held live items [] look within once = tt
 all_apart known held live items (n ∷ numbers) look within once = (
@@ -103,6 +107,7 @@ all_apart known held live items (n ∷ numbers) look within once = (
         let kept : number_of m (without (n ∷ []) items) ≡ number_of m items = number_of-without m (n ∷ []) items ∙ ap (λ (t : Bool). cond (t || false) 0 (number_of m items)) other.0 in
         omega (arith, within m, other_number n m other.1, kept)
 
+-- taking events out makes the list no longer
 pub lacking_length : (numbers : List ℕ) (live : List Left) → length (lacking numbers live) ≤ length live
 lacking_length [] live = omega arith
 lacking_length (n ∷ numbers) live = omega (arith, lacking_length numbers (lasting n live), lasting_length n live)
@@ -155,6 +160,7 @@ settled_places p = record {
   numbers = record p.numbers { first = p.numbers.first + length (pointers_in p.staged); frame = p.numbers.frame + one_if_staged p.staged };
 }
 
+-- once what is staged counts, the places look like the settled state
 pub settle_looks : (known : Known) (p : Places) (s : State) → Looks known known p s → Looks known known (settled_places p) (settle s)
 settle_looks known p s looks = record {
   sound = record {
@@ -244,6 +250,7 @@ settle_looks known p s looks = record {
         ∙ (ap (λ (k : ℕ). record (numbers_of s) { first = s.first + k; frame = s.frame + one_if_staged p.staged }) many
         ∙ ap (λ (k : ℕ). record (numbers_of s) { first = s.first + length puts; frame = k }) (frame_same known p.staged s.staged s.frame looks.staged))
 
+-- places equal to those that look like a state look like it too
 pub replaced : (settled known : Known) (p q : Places) (s : State) → q ≡ p → Looks settled known p s → Looks settled known q s
 replaced settled known p q s same looks = subst (λ (r : Places). Looks settled known r s) (sym same) looks
 

@@ -19,18 +19,21 @@ use Rattle.channel_places.specs.Looks.{IsWithinRoom, Known, LookLeft, LookPuts, 
 
 -- lengths
 
+-- as many pointers as the events that stand there
 pub puts_length : (known : Known) (pointers : List Pointer) (events : List Content) → LookPuts known pointers events → length pointers ≡ length events
 puts_length known [] [] look = refl
 puts_length known [] (e ∷ events) look = absurd look
 puts_length known (p ∷ pointers) [] look = absurd look
 puts_length known (p ∷ pointers) (e ∷ events) look = omega (arith, puts_length known pointers events look.1)
 
+-- as many places are left as items
 pub left_length : (known : Known) (held : List ℕ) (live : List Left) (items : List (ℕ × Content)) → LookLeft known held live items → length live ≡ length items
 left_length known held [] [] look = refl
 left_length known held [] (x ∷ items) look = absurd look
 left_length known held (l ∷ live) [] look = absurd look
 left_length known held (l ∷ live) (x ∷ items) look = omega (arith, left_length known held live items look.1)
 
+-- as many puts are staged by pointers as by events
 pub staged_length : (known : Known) (listed : List Listed) (staged : List Entry) → LookStaged known listed staged → puts_in listed ≡ length (put_events staged)
 staged_length known [] [] look = refl
 staged_length known [] (e ∷ staged) look = absurd look
@@ -41,6 +44,7 @@ staged_length known (Puts pointers ∷ listed) (entry.Takes numbers ∷ staged) 
 staged_length known (Takes numbers ∷ listed) (entry.Puts events ∷ staged) look = absurd look.0
 staged_length known (Takes numbers ∷ listed) (entry.Takes taken ∷ staged) look = omega (arith, staged_length known listed staged look.1)
 
+-- the places count as many events as the state
 pub count_is : (settled known : Known) (p : Places) (s : State) → Looks settled known p s → count_in p ≡ count s
 count_is settled known p s looks =
     omega (arith, left_length settled (held_in s) p.live s.items looks.left, looks.open_puts, staged_length known p.staged s.staged looks.staged)
@@ -56,6 +60,7 @@ none_numbered txn (o ∷ opened) all = from (eqb_tells o.0 txn) (none_numbered t
     from (inl is) more = absurd (omega (arith, all.0, is.1))
     from (inr isnt) more = rw isnt.0 more
 
+-- a transaction added at the end changes no other one
 pub entry_of-other : (other txn : ℕ) (e : Entry) (opened : Opened) → other ≢ txn → entry_of other (opened ++ (txn, e) ∷ []) ≡ entry_of other opened
 entry_of-other other txn e [] differs = from (eqb_tells txn other)
   where
@@ -68,6 +73,7 @@ entry_of-other other txn e (o ∷ opened) differs = by_test (o.0 == other) (entr
     by_test true more = refl
     by_test false more = more
 
+-- what the state doesn't have open, the table doesn't either
 pub none_open : (known : Known) (room : ℕ) (o : Option Open) (e : Option Entry) → LooksOpen known room o e → e ≡ None → o ≡ None
 none_open known room None e look none = refl
 none_open known room (Some o) None look none = absurd look
@@ -76,16 +82,19 @@ none_open known room (Some o) (Some e) look none = absurd (differ none)
     differ : Some e ≡ None → ⊥
     differ same = cc
 
+-- no transaction has the next number yet
 pub next_not_open : (settled known : Known) (p : Places) (s : State) → Looks settled known p s → open_at p.opened p.numbers.txn ≡ None
 next_not_open settled known p s looks =
     let same : p.numbers.txn ≡ s.txn = ap (λ (n : Numbers). n.txn) looks.numbers in
     subst (λ (n : ℕ). open_at p.opened n ≡ None) (sym same)
     (none_open known s.rules.limits.txn_capacity (open_at p.opened s.txn) (entry_of s.txn s.opened) (looks.opened s.txn) (none_numbered s.txn s.opened (rise-all 0 s.txn s.opened looks.sound.opened)))
 
+-- a transaction that has just begun takes nothing
 pub no_takes : (puts : Bool) → taken_numbers (no_entry puts ∷ []) ≡ []
 no_takes true = refl
 no_takes false = refl
 
+-- a transaction that has just begun puts nothing
 pub no_puts : (puts : Bool) → put_events (no_entry puts ∷ []) ≡ []
 no_puts true = refl
 no_puts false = refl
@@ -151,15 +160,18 @@ begun_looks settled known p s t puts room looks room_is has many = record {
             let at : open_at t n ≡ open_at p.opened n = has.others n (λ same. isnt.1 (same ∙ txn)) in
             rw (at, entry_of-other n s.txn (no_entry puts) s.opened isnt.1) (looks.opened n)
 
+-- another list equal to what is staged looks the same
 pub restaged : (settled known : Known) (p : Places) (s : State) (staged : List Listed) → staged ≡ p.staged → Looks settled known p s → Looks settled known (record p { staged = staged }) s
 restaged settled known p s staged same looks = subst (λ (l : List Listed). Looks settled known (record p { staged = l }) s) (sym same) looks
 
 -- within their room
 
+-- a transaction that has just begun is within its room
 pub begun_within : (puts : Bool) (room : ℕ) → IsWithinRoom (Some (begun puts room))
 begun_within true room = omega arith
 begun_within false room = omega arith
 
+-- where one transaction changed and is within its room, so is each
 pub rooms_stay : (old t : Table) (n : ℕ) (o : Option Open) → HasAt n o old t → IsWithinRoom o → ((m : ℕ) → IsWithinRoom (open_at old m)) → (m : ℕ) → IsWithinRoom (open_at t m)
 rooms_stay old t n o has here each m = from (eqb_tells m n)
   where
@@ -179,9 +191,11 @@ opened_looks settled known p o none_open none_staged none_put numbers left base 
   numbers = numbers;
 }
 
+-- as many events are left as the state has items
 pub size_is : (settled known : Known) (p : Places) (s : State) → Looks settled known p s → length p.live ≡ length s.items
 size_is settled known p s looks = left_length settled (held_in s) p.live s.items looks.left
 
+-- a channel that is marked broken looks like the broken state
 pub broken_looks : (settled known : Known) (p : Places) (s : State) → Looks settled known p s → Looks settled known (record p { numbers = record p.numbers { broken = true } }) (broken_state s)
 broken_looks settled known p s looks = record {
   sound = record { base = looks.sound.base; held = looks.sound.held; opened = looks.sound.opened; staged = looks.sound.staged };

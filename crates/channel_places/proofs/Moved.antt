@@ -18,11 +18,13 @@ use Rattle.channel_places.specs.Looks.{IsWithinRoom, Known, LookPuts, LookStaged
 
 -- staged transactions, one after another
 
+-- lists that are the same from a place on have the same there
 pub same_here : (xs ys : List Ended) (i : ℕ) (d : Ended) → drop i xs ≡ drop i ys → get_or xs i d ≡ get_or ys i d
 same_here xs ys i d same =
     let at : i + 0 ≡ i = omega arith in
     sym (ap (λ (k : ℕ). get_or xs k d) at) ∙ (sym (get_or-drop i xs 0 d) ∙ (ap (λ (l : List Ended). get_or l 0 d) same ∙ (get_or-drop i ys 0 d ∙ ap (λ (k : ℕ). get_or ys k d) at)))
 
+-- one staged transaction more is moved in front
 pub front_more : (f : Listed → Listed) (xs ys : List Ended) (i : ℕ) (d y : Ended) → i < length xs → i < length ys → map listed_of (take i xs) ≡ map f (map listed_of (take i ys)) → drop i xs ≡ drop i ys → listed_of y ≡ f (listed_of (get_or xs i d))
     → map listed_of (take (i + 1) (set xs i y)) ≡ map f (map listed_of (take (i + 1) ys))
 front_more f xs ys i d y below other front rest is =
@@ -35,9 +37,11 @@ front_more f xs ys i d y below other front rest is =
     ∙ (ap (λ (l : List Listed). map f l) (sym (map-append listed_of (take i ys) (get_or ys i d ∷ [])))
     ∙ sym (ap (λ (l : List Ended). map f (map listed_of l)) (take_more ys i d other)))))))
 
+-- what is behind the one that was moved stays the same
 pub rest_more : (xs ys : List Ended) (i : ℕ) (y : Ended) → drop i xs ≡ drop i ys → drop (i + 1) (set xs i y) ≡ drop (i + 1) ys
 rest_more xs ys i y rest = drop-set-lt (i + 1) xs i y (omega arith) ∙ drop_more_same xs ys i rest
 
+-- what holds of all staged transactions holds of the one at this place
 pub all_here : (P : Listed → Type 0) (ys : List Ended) (i : ℕ) (d : Ended) → AllByRecursion P (map listed_of ys) → i < length ys → P (listed_of (get_or ys i d))
 all_here P [] i d all less = absurd (omega (arith, less))
 all_here P (y ∷ ys) zero d all less = all.0
@@ -70,6 +74,7 @@ staged_moved known more file at to_file to_at (l ∷ listed) [] moves look = abs
 staged_moved known more file at to_file to_at (l ∷ listed) (e ∷ staged) moves look =
     (listed_moved known more file at to_file to_at l e moves look.0, staged_moved known more file at to_file to_at listed staged moves look.1)
 
+-- places whose pointers are moved look like the same state
 pub moved_looks : (settled known more : Known) (file at to_file to_at : ℕ) (p : Places) (s : State) (t : Table) (staged : List Listed) → Looks settled known p s → Moves file at to_file to_at known more
     → ((n : ℕ) → open_at t n ≡ option_map (moved_open file at to_file to_at) (open_at p.opened n)) → length t ≡ length p.opened → staged ≡ map (moved file at to_file to_at) p.staged → Looks settled more (record p { opened = t; staged = staged }) s
 moved_looks settled known more file at to_file to_at p s t staged looks moves opened many staged_is = record {
@@ -88,10 +93,12 @@ listed_may : (file at to_at : ℕ) (l : Listed) → to_at ≤ at → MayMove fil
 listed_may file at to_at (Puts pointers) low = λ k d less. inl low
 listed_may file at to_at (Takes numbers) low = tt
 
+-- an open transaction may be moved where no offset grows
 pub open_may : (file at to_at : ℕ) (o : Option Open) → to_at ≤ at → MatchOption o (Unit {0}) (λ o. MayMove file at to_at o.listed)
 open_may file at to_at None low = tt
 open_may file at to_at (Some o) low = listed_may file at to_at o.listed low
 
+-- all staged transactions may be moved where no offset grows
 pub staged_may : (file at to_at : ℕ) (listed : List Listed) → to_at ≤ at → AllByRecursion (λ l. MayMove file at to_at l) listed
 staged_may file at to_at [] low = tt
 staged_may file at to_at (l ∷ listed) low = (listed_may file at to_at l low, staged_may file at to_at listed low)
@@ -105,6 +112,7 @@ stands_moved f [] p event stands = absurd stands
 stands_moved f (k ∷ known) p event (inl here) = inl (ap (λ (k : Pointer × Content). (f k.0, k.1)) here)
 stands_moved f (k ∷ known) p event (inr there) = inr (stands_moved f known p event there)
 
+-- each event that is known stands where its pointer was moved
 pub all_moved : (file at to_file to_at : ℕ) (known : Known) → Moves file at to_file to_at known (known_moved file at to_file to_at known)
 all_moved file at to_file to_at known p event stands = stands_moved (moved_pointer file at to_file to_at) known p event stands
 
@@ -122,18 +130,22 @@ moved_puts : (file at to_file to_at : ℕ) (l : Listed) → length (puts_of (mov
 moved_puts file at to_file to_at (Puts pointers) = map_length (moved_pointer file at to_file to_at) pointers
 moved_puts file at to_file to_at (Takes numbers) = refl
 
+-- a transaction whose pointers are moved is still within its room
 pub moved_within : (file at to_file to_at : ℕ) (o : Option Open) → IsWithinRoom o → IsWithinRoom (option_map (moved_open file at to_file to_at) o)
 moved_within file at to_file to_at None within = tt
 moved_within file at to_file to_at (Some o) within = omega (arith, within, moved_size file at to_file to_at o.listed)
 
+-- as many puts are staged after a move
 pub puts_in-moved : (file at to_file to_at : ℕ) (staged : List Listed) → puts_in (map (moved file at to_file to_at) staged) ≡ puts_in staged
 puts_in-moved file at to_file to_at [] = refl
 puts_in-moved file at to_file to_at (l ∷ staged) = omega (arith, moved_puts file at to_file to_at l, puts_in-moved file at to_file to_at staged)
 
+-- whether something is staged stays the same after a move
 pub one_if-moved : (file at to_file to_at : ℕ) (staged : List Listed) → one_if_staged (map (moved file at to_file to_at) staged) ≡ one_if_staged staged
 one_if-moved file at to_file to_at [] = refl
 one_if-moved file at to_file to_at (l ∷ staged) = refl
 
+-- as many transactions are staged after a move
 pub length-moved : (file at to_file to_at : ℕ) (staged : List Listed) → length (map (moved file at to_file to_at) staged) ≡ length staged
 length-moved file at to_file to_at [] = refl
 length-moved file at to_file to_at (l ∷ staged) = omega (arith, length-moved file at to_file to_at staged)
@@ -146,6 +158,7 @@ is_of_moved file at to_file to_at (Put pointer) (Takes numbers) is = absurd is
 is_of_moved file at to_file to_at (Take number) (Puts pointers) is = absurd is
 is_of_moved file at to_file to_at (Take number) (Takes numbers) is = tt
 
+-- a move takes away none of a transaction's room
 pub may_moved : (file at to_file to_at : ℕ) (item : Item) (o : Option Open) → MayAdd item o → MayAdd item (option_map (moved_open file at to_file to_at) o)
 may_moved file at to_file to_at item None may = absurd may
 may_moved file at to_file to_at item (Some o) may = (is_of_moved file at to_file to_at item o.listed may.0, omega (arith, may.1, moved_size file at to_file to_at o.listed))

@@ -15,18 +15,22 @@ use Rattle.event_ring.specs.Slots.{Left}
 
 -- numbers of open transactions rise
 
+-- where numbers rise, the next one is no less than the lowest
 pub open_within : (low : ℕ) (opened : Opened) (txn : ℕ) → OpenRise low opened txn → low ≤ txn
 open_within low [] txn rise = rise
 open_within low (o ∷ opened) txn rise = omega (arith, rise.0, open_within (o.0 + 1) opened txn rise.1)
 
+-- numbers that rise from a high one on also rise from a lower one on
 pub open_from : (low high : ℕ) (opened : Opened) (txn : ℕ) → low ≤ high → OpenRise high opened txn → OpenRise low opened txn
 open_from low high [] txn less rise = omega (arith, less, rise)
 open_from low high (o ∷ opened) txn less rise = (omega (arith, less, rise.0), rise.1)
 
+-- a transaction with the next number comes last, and numbers still rise
 pub rise-push : (low txn : ℕ) (e : Entry) (opened : Opened) → OpenRise low opened txn → OpenRise low (opened ++ (txn, e) ∷ []) (txn + 1)
 rise-push low txn e [] rise = (rise, omega arith)
 rise-push low txn e (o ∷ opened) rise = (rise.0, rise-push (o.0 + 1) txn e opened rise.1)
 
+-- numbers still rise where one transaction has something else
 pub rise-with : (low txn number : ℕ) (e : Entry) (opened : Opened) → OpenRise low opened txn → OpenRise low (with_entry number e opened) txn
 rise-with low txn number e [] rise = rise
 rise-with low txn number e (o ∷ opened) rise = by_test (o.0 == number) (rise-with (o.0 + 1) txn number e opened rise.1)
@@ -35,6 +39,7 @@ rise-with low txn number e (o ∷ opened) rise = by_test (o.0 == number) (rise-w
     by_test true more = (rise.0, rise.1)
     by_test false more = (rise.0, more)
 
+-- numbers still rise where one transaction is open no more
 pub rise-without : (low txn number : ℕ) (opened : Opened) → OpenRise low opened txn → OpenRise low (without_entry number opened) txn
 rise-without low txn number [] rise = rise
 rise-without low txn number (o ∷ opened) rise = by_test (o.0 == number) (rise-without (o.0 + 1) txn number opened rise.1)
@@ -43,6 +48,7 @@ rise-without low txn number (o ∷ opened) rise = by_test (o.0 == number) (rise-
     by_test true more = open_from low (o.0 + 1) opened txn (omega (arith, rise.0)) rise.1
     by_test false more = (rise.0, more)
 
+-- open transactions whose numbers rise are all numbered below the next one
 pub rise-all : (low txn : ℕ) (opened : Opened) → OpenRise low opened txn → AreNumbered txn opened
 rise-all low txn [] rise = tt
 rise-all low txn (o ∷ opened) rise = (omega (arith, open_within (o.0 + 1) opened txn rise.1), rise-all (o.0 + 1) txn opened rise.1)
@@ -66,6 +72,7 @@ entry_of_without low txn number (o ∷ opened) rise = from (eqb_tells o.0 number
     from (inl is) more = rw is.0 (none_below (o.0 + 1) txn number opened rise.1 (omega (arith, is.1)))
     from (inr isnt) more = rw (isnt.0, isnt.0) more
 
+-- where one transaction is open no more, each other has what it had
 pub entry_of_without-other : (other number : ℕ) (opened : Opened) → other ≢ number → entry_of other (without_entry number opened) ≡ entry_of other opened
 entry_of_without-other other number [] differs = refl
 entry_of_without-other other number (o ∷ opened) differs = from (eqb_tells o.0 number) (eqb_tells o.0 other) (entry_of_without-other other number opened differs)
@@ -78,6 +85,7 @@ entry_of_without-other other number (o ∷ opened) differs = from (eqb_tells o.0
     from (inr another) (inl at) more = rw (another.0, at.0) refl
     from (inr another) (inr isnt) more = rw (another.0, isnt.0) more
 
+-- there is one fewer where a transaction is open no more
 pub length-without : (number : ℕ) (opened : Opened) (e : Entry) → entry_of number opened ≡ Some e → length (without_entry number opened) + 1 ≡ length opened
 length-without number [] e is = absurd (cc)
 length-without number (o ∷ opened) e is = by_test (o.0 == number) is (length-without number opened e)
@@ -88,6 +96,7 @@ length-without number (o ∷ opened) e is = by_test (o.0 == number) is (length-w
 
 -- a list in which one transaction has something else
 
+-- where one transaction has something else, each other has what it had
 pub entry_of_with-other : (other number : ℕ) (e : Entry) (opened : Opened) → other ≢ number → entry_of other (with_entry number e opened) ≡ entry_of other opened
 entry_of_with-other other number e [] differs = refl
 entry_of_with-other other number e (o ∷ opened) differs = from (eqb_tells o.0 number) (eqb_tells o.0 other) (entry_of_with-other other number e opened differs)
@@ -100,6 +109,7 @@ entry_of_with-other other number e (o ∷ opened) differs = from (eqb_tells o.0 
     from (inr another) (inl at) more = rw (another.0, at.0) refl
     from (inr another) (inr isnt) more = rw (another.0, isnt.0) more
 
+-- as many are open where one has something else
 pub length-with : (number : ℕ) (e : Entry) (opened : Opened) → length (with_entry number e opened) ≡ length opened
 length-with number e [] = refl
 length-with number e (o ∷ opened) = by_test (o.0 == number) (length-with number e opened)
@@ -114,6 +124,7 @@ size_put e = length (put_events (e ∷ []))
 abbrev pub puts_size : Opened → ℕ
 puts_size opened = length (put_events (entries opened))
 
+-- the puts of the first entry and those of the rest add up
 pub size-cons : (e : Entry) (rest : List Entry) → length (put_events (e ∷ rest)) ≡ size_put e + length (put_events rest)
 size-cons (entry.Puts events) rest = omega (arith, length-append events (put_events rest), length-append events [])
 size-cons (entry.Takes numbers) rest = omega arith
@@ -134,6 +145,7 @@ size-with number (o ∷ opened) old new is = by_test (o.0 == number) refl (size-
     by_test false t_is more =
         rw t_is (omega (arith, size-cons o.1 (entries opened), size-cons o.1 (entries (with_entry number new opened)), more (rw t_is at is)))
 
+-- where a transaction is open no more, its puts are counted no more
 pub size-without : (number : ℕ) (opened : Opened) (old : Entry) → entry_of number opened ≡ Some old → puts_size (without_entry number opened) + size_put old ≡ puts_size opened
 size-without number [] old is = absurd (cc)
 size-without number (o ∷ opened) old is = by_test (o.0 == number) refl (size-without number opened old)
@@ -167,41 +179,48 @@ taken-with_puts number (o ∷ opened) old new is = by_test (o.0 == number) refl 
 abbrev pub Grows : Known → Known → Type 0
 Grows known more = (p : Pointer) (event : Content) → StandsIn known p event → StandsIn more p event
 
+-- puts that stand at known pointers still do where more is known
 pub puts_grow : (known more : Known) (pointers : List Pointer) (events : List Content) → Grows known more → LookPuts known pointers events → LookPuts more pointers events
 puts_grow known more [] [] grows look = tt
 puts_grow known more [] (e ∷ events) grows look = absurd look
 puts_grow known more (p ∷ pointers) [] grows look = absurd look
 puts_grow known more (p ∷ pointers) (e ∷ events) grows look = (grows p e look.0, puts_grow known more pointers events grows look.1)
 
+-- what a transaction has looks the same where more is known
 pub listed_grows : (known more : Known) (listed : Listed) (e : Entry) → Grows known more → LooksListed known listed e → LooksListed more listed e
 listed_grows known more (Puts pointers) (entry.Puts events) grows look = puts_grow known more pointers events grows look
 listed_grows known more (Puts pointers) (entry.Takes numbers) grows look = absurd look
 listed_grows known more (Takes numbers) (entry.Puts events) grows look = absurd look
 listed_grows known more (Takes numbers) (entry.Takes taken) grows look = look
 
+-- what may be open looks the same where more is known
 pub open_grows : (known more : Known) (room : ℕ) (o : Option Open) (e : Option Entry) → Grows known more → LooksOpen known room o e → LooksOpen more room o e
 open_grows known more room None None grows look = tt
 open_grows known more room None (Some e) grows look = absurd look
 open_grows known more room (Some o) None grows look = absurd look
 open_grows known more room (Some o) (Some e) grows look = (listed_grows known more o.listed e grows look.0, look.1)
 
+-- what is staged looks the same where more is known
 pub staged_grows : (known more : Known) (listed : List Listed) (staged : List Entry) → Grows known more → LookStaged known listed staged → LookStaged more listed staged
 staged_grows known more [] [] grows look = tt
 staged_grows known more [] (e ∷ staged) grows look = absurd look
 staged_grows known more (l ∷ listed) [] grows look = absurd look
 staged_grows known more (l ∷ listed) (e ∷ staged) grows look = (listed_grows known more l e grows look.0, staged_grows known more listed staged grows look.1)
 
+-- what is left looks the same where more is known
 pub left_grows : (known more : Known) (held : List ℕ) (live : List Left) (items : List (ℕ × Content)) → Grows known more → LookLeft known held live items → LookLeft more held live items
 left_grows known more held [] [] grows look = tt
 left_grows known more held [] (x ∷ items) grows look = absurd look
 left_grows known more held (l ∷ live) [] grows look = absurd look
 left_grows known more held (l ∷ live) (x ∷ items) grows look = ((look.0.0, look.0.1, grows l.pointer x.1 look.0.2), left_grows known more held live items grows look.1)
 
+-- what is known in front is still known where more comes behind
 pub grows_front : (a b : Known) → Grows a (a ++ b)
 grows_front [] b p event stands = absurd stands
 grows_front (k ∷ a) b p event (inl here) = inl here
 grows_front (k ∷ a) b p event (inr there) = inr (grows_front a b p event there)
 
+-- what is known behind is still known where more comes in front
 pub grows_behind : (a b : Known) → Grows b (a ++ b)
 grows_behind [] b p event stands = stands
 grows_behind (k ∷ a) b p event stands = inr (grows_behind a b p event stands)

@@ -50,9 +50,11 @@ puts_at known room (Some o) (Some (entry.Takes numbers)) look is = by_listed o.l
     by_listed (Puts pointers) r listed has = absurd has.0
     by_listed (Takes ns) r listed has = absurd (differ o.listed ns is listed)
 
+-- a transaction open for puts has puts in the table and in the state
 pub open_puts : (settled known : Known) (p : Places) (s : State) (n : ℕ) → Looks settled known p s → is_open true (open_at p.opened n) ≡ true → HasPuts known s.rules.limits.txn_capacity (open_at p.opened n) (entry_of n s.opened)
 open_puts settled known p s n looks is = puts_at known s.rules.limits.txn_capacity (open_at p.opened n) (entry_of n s.opened) (looks.opened n) is
 
+-- a transaction that may have a put added is open for puts
 pub may_put : (pointer : Pointer) (o : Option Open) → MayAdd (Put pointer) o → is_open true o ≡ true
 may_put pointer None may = absurd may
 may_put pointer (Some o) may = by_listed o.listed may.0
@@ -61,6 +63,7 @@ may_put pointer (Some o) may = by_listed o.listed may.0
     by_listed (Puts pointers) is = refl
     by_listed (Takes numbers) is = absurd is
 
+-- what is known is still known where one event more is
 pub grows_one : (known : Known) (k : Pointer × Content) → Grows known (k ∷ known)
 grows_one known k p event stands = inr stands
 
@@ -134,6 +137,7 @@ puts_found settled known p s token found looks life is got =
 
 -- what the machine says of a put to a transaction that isn't full
 
+-- a put to a channel that is full is refused with its count
 pub refuses_full : (s : State) (puts : Option (List Content)) (events : List Content) (event : Content) → puts ≡ Some events → s.rules.kind ≡ File → s.broken ≡ false → length events < s.rules.limits.txn_capacity → size event ≤ 1_048_576 → s.rules.limits.capacity ≤ count s
     → put_refusal s puts event ≡ Some (PutNo.Full (count s))
 refuses_full s puts events event puts_are kind whole few small full =
@@ -142,6 +146,7 @@ refuses_full s puts events event puts_are kind whole few small full =
     let much : nat_le s.rules.limits.capacity (count s) ≡ true = grind (arith, nat_tests) in
     rw (puts_are, whole, room, kind, fits, much) refl
 
+-- a put that all limits leave room for isn't refused
 pub refuses_none : (s : State) (puts : Option (List Content)) (events : List Content) (event : Content) → puts ≡ Some events → s.rules.kind ≡ File → s.broken ≡ false → length events < s.rules.limits.txn_capacity → size event ≤ 1_048_576 → count s < s.rules.limits.capacity
     → put_refusal s puts event ≡ None
 refuses_none s puts events event puts_are kind whole few small free =
@@ -150,6 +155,7 @@ refuses_none s puts events event puts_are kind whole few small free =
     let little : nat_le s.rules.limits.capacity (count s) ≡ false = grind (arith, nat_tests) in
     rw (puts_are, whole, room, kind, fits, little) refl
 
+-- a transaction with room for a put is within its room after it
 pub put_within : (pointer : Pointer) (o : Option Open) → MayAdd (Put pointer) o → IsWithinRoom (added (Put pointer) o)
 put_within pointer None may = absurd may
 put_within pointer (Some o) may = by_listed o.listed may.0 may.1

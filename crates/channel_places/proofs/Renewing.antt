@@ -12,6 +12,7 @@ use Rattle.channel_places.specs.Looks.{Known, LookLeft, LookStaged, Looks, Looks
 same_number : (n : ℕ) → is_eq (nat_cmp n n) ≡ true
 same_number n = unsigned_tied n n ∙ grind (arith, nat_tests)
 
+-- a table in which no number is open is empty
 pub none_at_all : (t : Table) → ((n : ℕ) → open_at t n ≡ None) → t ≡ []
 none_at_all [] none = refl
 none_at_all (o ∷ t) none = absurd (differ (sym here ∙ none o.0))
@@ -32,6 +33,7 @@ renewed p live t staged first txn ends = record {
   numbers = record { rules = p.numbers.rules; first = first; txn = txn; broken = false; life = p.numbers.life + 1; frame = 1; ends = ends };
 }
 
+-- the places of a new life look like the state after the reopening
 pub renew_looks : (before old settled known : Known) (p : Places) (s : State) (r : Reopened) (live : List Left) (t : Table) (staged : List Listed) (first txn : ℕ) (ends : List ℕ) → Looks before old p s → t ≡ [] → staged ≡ [] → (kept_base s r.kept).first ≡ first → r.txn ≡ txn
     → ends ≡ p.numbers.ends ++ p.numbers.frame ∷ [] → LookLeft settled [] live (kept_base s r.kept).items → IsBase (kept_base s r.kept) → Looks settled known (renewed p live t staged first txn ends) (after_reopen s (Ok r))
 renew_looks before old settled known p s r live t staged first txn ends looks none_open none_staged first_is txn_is ends_are left base = record {

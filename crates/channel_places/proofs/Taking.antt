@@ -28,6 +28,7 @@ pub record IsFirst (known : Known) (held : List ℕ) (live : List Left) (items :
   pub free_is : without held items ≡ (number, event) ∷ rest
   pub live_is : IsLive live number
 
+-- where the ring has no free number, no item is free
 pub none_free : (known : Known) (held : List ℕ) (live : List Left) (items : List (ℕ × Content)) → LookLeft known held live items → first_number live ≡ None → without held items ≡ []
 none_free known held [] [] look none = refl
 none_free known held [] (x ∷ items) look none = absurd look
@@ -41,6 +42,7 @@ none_free known held (l ∷ live) (x ∷ items) look none = by_test (is_among he
     by_test true none more = more none
     by_test false none more = absurd (differ none)
 
+-- the ring's first free number is that of the first free item
 pub some_free : (known : Known) (held : List ℕ) (live : List Left) (items : List (ℕ × Content)) (number : ℕ) → LookLeft known held live items → first_number live ≡ Some number → IsFirst known held live items number
 some_free known held [] items number look is = absurd (cc)
 some_free known held (l ∷ live) [] number look is = absurd look
@@ -110,6 +112,7 @@ live_pointer (l ∷ live) number is none = from (eqb_tells l.number number) is (
 
 -- one number more is held
 
+-- a number is among one more where it is that one or was there before
 pub among_more : (xs ys : List ℕ) (n m : ℕ) → times m ys ≡ times m xs + one_if (n == m) → is_among ys m ≡ ((n == m) || is_among xs m)
 among_more xs ys n m is = from (among_times m xs) (among_times m ys) (eqb_tells n m)
   where
@@ -122,6 +125,7 @@ among_more xs ys n m is = from (among_times m xs) (among_times m ys) (eqb_tells 
     from (inl in_xs) (inr not_ys) (inr other) = absurd (omega (arith, is, not_ys.1, in_xs.1))
     from (inr not_xs) (inr not_ys) (inr other) = rw (not_ys.0, other.0, not_xs.0) refl
 
+-- what is left still looks the same where one number more is held and marked so
 pub left_marked : (known : Known) (xs ys : List ℕ) (n : ℕ) (live : List Left) (items : List (ℕ × Content)) → ((m : ℕ) → is_among ys m ≡ ((n == m) || is_among xs m)) → LookLeft known xs live items → LookLeft known ys (marked n true live) items
 left_marked known xs ys n [] [] more look = tt
 left_marked known xs ys n [] (x ∷ items) more look = absurd look
@@ -159,6 +163,7 @@ takes_at known room (Some o) (Some e) look may = by_listed o.listed e refl refl 
       e_is = ap (λ (k : Entry). Some k) is;
     }
 
+-- a transaction with room for a take is within its room after it
 pub take_within : (number : ℕ) (o : Option Open) → MayAdd (Take 0) o → IsWithinRoom (added (Take number) o)
 take_within number None may = absurd may
 take_within number (Some o) may = by_listed o.listed may.0 may.1
@@ -167,6 +172,7 @@ take_within number (Some o) may = by_listed o.listed may.0 may.1
     by_listed (Puts pointers) is few = absurd is
     by_listed (Takes numbers) is few = omega (arith, few, length-append numbers (number ∷ []))
 
+-- where one take may be added, a take of any number may
 pub may_take : (number : ℕ) (o : Option Open) → MayAdd (Take 0) o → MayAdd (Take number) o
 may_take number None may = absurd may
 may_take number (Some o) may = (by_listed o.listed may.0, may.1)
@@ -271,16 +277,20 @@ first_of settled known p s number pointer looks is at =
     subst (λ (l : List (ℕ × Content)). IsFree settled (Some (number, pointer)) l) (sym f.free_is)
     (refl, pointer_free settled (held_in s) p.live s.items 0 s.first number pointer f.event f.rest (rising_base (base_of s) looks.sound.base) looks.left f.free_is at)
 
+-- where the ring has no free number, the state has no free event
 pub none_of : (settled known : Known) (p : Places) (s : State) → Looks settled known p s → first_number p.live ≡ None → IsFree settled None (free s)
 none_of settled known p s looks none = subst (λ (l : List (ℕ × Content)). IsFree settled None l) (sym (none_free settled (held_in s) p.live s.items looks.left none)) tt
 
+-- marking an event as held or not keeps their number
 pub length-marked : (number : ℕ) (held : Bool) (live : List Left) → length (marked number held live) ≡ length live
 length-marked number held [] = refl
 length-marked number held (l ∷ live) = omega (arith, length-marked number held live)
 
+-- another list equal to the events that are left looks the same
 pub relive : (settled known : Known) (p : Places) (s : State) (live : List Left) (t : Table) (now : List Left) → now ≡ live → Looks settled known (record p { live = live; opened = t }) s → Looks settled known (record p { live = now; opened = t }) s
 relive settled known p s live t now same looks = subst (λ (l : List Left). Looks settled known (record p { live = l; opened = t }) s) (sym same) looks
 
+-- what is no number at all is none
 pub none_number : (live : Option ℕ) → ((n : ℕ) → live ≡ Some n → ⊥) → live ≡ None
 none_number None isnt = refl
 none_number (Some n) isnt = absurd (isnt n refl)

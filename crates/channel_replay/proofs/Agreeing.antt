@@ -18,6 +18,7 @@ use Rattle.channel_replay.proofs.Starts.{open_commits_none, start_as_many, start
 start_leaves : (s : Start) → after_journal s.base (journal (start_past s)) ≡ s.base
 start_leaves s = ap (λ (j : List Entry). after_journal s.base j) (open_commits_none s.opened []) ∙ after_none s.base
 
+-- where a start follows another, its place is like the one that the earlier start and the lines lead to
 pub alike_starts : (s later : Start) (between : List Line) → IsStart s → IsStart later → AreSound s.base (start_past s) between → Follows s between later
     → Alike s.base (past_lines (start_past s) between) later.base (start_past later)
 alike_starts s later between is is_later sound follows = record {
@@ -36,6 +37,7 @@ sound_behind base past (line ∷ a) b sound = sound_behind base (past_line past 
 replayed_behind : (s : Start) (a b : List Line) → replayed s (a ++ b) ≡ after_journal s.base (journal (past_lines (past_lines (start_past s) a) b))
 replayed_behind s a b = ap (λ (p : Past). after_journal s.base (journal p)) (past_lines-append (start_past s) a b)
 
+-- replays from an earlier and from a following start are sound together, and leave the same
 pub starts_agree : StartsAgree
 starts_agree s later between rest is is_later sound follows =
     let al = alike_starts s later between is is_later sound follows in
@@ -48,6 +50,7 @@ starts_agree s later between rest is is_later sound follows =
       λ behind. replayed_behind s between rest ∙ sym (alike_lines later.base (start_past later) s.base p rest back behind).1.leaves,
     )
 
+-- a first fault after the later start is the first one after the earlier start too
 pub one_fault : FaultIsOneForBoth
 one_fault s later between rest file at is is_later sound follows fault =
     let al = alike_starts s later between is is_later sound follows in
@@ -68,6 +71,7 @@ alike_begun s later between is is_later sound same =
       second = record { rising = p.rising; held = λ t n more. refl; taken = p.taken };
     }
 
+-- where a new life begins after a later start, that start needs only to have what is left
 pub new_life_agrees : NewLifeAgrees
 new_life_agrees s later between rest is is_later sound same begins behind = from begins
   where
@@ -87,6 +91,7 @@ new_life_agrees s later between rest is is_later sound same begins behind = from
     from (inl is) = subst Agrees (sym is) none
     from (inr is) = subst Agrees (sym is.1) (some is.0 (subst (λ (l : List Line). AreSound later.base (start_past later) l) is.1 behind))
 
+-- a start that follows one that follows a first start follows the first one too
 pub goes_on : FollowingGoesOn
 goes_on s mid later between more is is_mid sound first sound_more second =
     let al = alike_starts s mid between is is_mid sound first in

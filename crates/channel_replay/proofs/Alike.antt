@@ -24,6 +24,7 @@ pub record Alike (a : Base) (p : Past) (b : Base) (q : Past) : Type 0 where
   pub first : IsOrdered a p
   pub second : IsOrdered b q
 
+-- being alike holds in both directions
 pub alike_back : (a : Base) (p : Past) (b : Base) (q : Past) → Alike a p b q → Alike b q a p
 alike_back a p b q al = record { leaves = sym al.leaves; each = λ t. sym (al.each t); as_many = sym al.as_many; first = al.second; second = al.first }
 
@@ -32,6 +33,7 @@ alike_back a p b q al = record { leaves = sym al.leaves; each = λ t. sym (al.ea
 same_may : (m n : ℕ) (x y : Option Entry) (P : Entry → Type 0) → m ≡ n → x ≡ y → MayGoOn m x P → MayGoOn n y P
 same_may m n x y P many same may = subst (λ (e : Option Entry). MayGoOn n e P) same (subst (λ (k : ℕ). MayGoOn k x P) many may)
 
+-- a record that is legal at one of two alike places is legal at the other
 pub legal_too : (a : Base) (p : Past) (b : Base) (q : Past) (rec : Rec) → Alike a p b q → IsLegal a p rec → IsLegal b q rec
 legal_too a p b q (Put txn event) al legal = (legal.0, same_may (length (open_txns p)) (length (open_txns q)) (opened txn p) (opened txn q) IsPut al.as_many (al.each txn) legal.1)
 legal_too a p b q (Take txn number) al legal = (
@@ -85,6 +87,7 @@ as_many_after a p q (CommitPut txn first count) each many legal = removed_as_man
 as_many_after a p q (CommitTake txn count) each many legal = removed_as_many p q txn (each txn) (some_and_is (opened txn p) (IsTakeOf count) legal.1) many
 as_many_after a p q (End count) each many legal = absurd legal
 
+-- two alike places stay alike after a legal record
 pub alike_rec : (a : Base) (p : Past) (b : Base) (q : Past) (rec : Rec) → Alike a p b q → IsLegal a p rec → Alike a (Applied rec ∷ p) b (Applied rec ∷ q)
 alike_rec a p b q rec al legal = record {
   leaves =
@@ -98,11 +101,13 @@ alike_rec a p b q rec al legal = record {
   second = ordered_rec b q rec (legal_too a p b q rec al legal) al.second;
 }
 
+-- a line that is sound at one of two alike places is sound at the other
 pub sound_too : (a : Base) (p : Past) (b : Base) (q : Past) (line : Line) → Alike a p b q → IsSound a p line → IsSound b q line
 sound_too a p b q Begins al sound = tt
 sound_too a p b q (Stands file at rec) al sound = legal_too a p b q rec al sound
 sound_too a p b q (Faulty file at) al sound = absurd sound
 
+-- two alike places stay alike after a sound line
 pub alike_line : (a : Base) (p : Past) (b : Base) (q : Past) (line : Line) → Alike a p b q → IsSound a p line → Alike a (past_line p line) b (past_line q line)
 alike_line a p b q Begins al sound = record {
   leaves = al.leaves;

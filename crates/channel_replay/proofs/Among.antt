@@ -14,6 +14,7 @@ use Rattle.channel_replay.proofs.Numbers.{or_among}
 use Rattle.channel_replay.proofs.Keys.{Tells, open_once}
 use Rattle.channel_replay.specs.Start.{AreApart}
 
+-- yes is not no
 pub differ : true ≡ false → ⊥
 differ is = absurd (cc)
 
@@ -87,12 +88,15 @@ among_open (Applied rec ∷ past) n = by_rec rec (among_open past n)
     by_rec (CommitTake txn count) here = fewer txn here
     by_rec (End count) here = here ∙ same_if (0 == n) (opened n past)
 
+-- a number that was not among them makes the list longer by one
 pub added_length : (t : ℕ) (txns : List ℕ) → is_among txns t ≡ false → length (added t txns) ≡ length txns + 1
 added_length t txns none = rw none (length-append txns (t ∷ []))
 
+-- a number that is among them already leaves the list as long as it was
 pub added_same : (t : ℕ) (txns : List ℕ) → is_among txns t ≡ true → length (added t txns) ≡ length txns
 added_same t txns there = rw there refl
 
+-- the list gets shorter by as many as the number stood in it
 pub removed_length : (t : ℕ) (txns : List ℕ) → length (removed t txns) + times t txns ≡ length txns
 removed_length t [] = refl
 removed_length t (x ∷ txns) = by_test (x == t) (removed_length t txns)
@@ -109,6 +113,7 @@ one_removed past t some = from (among_times t (open_txns past))
     from (inl there) = omega (arith, there.1, open_once past t, removed_length t (open_txns past))
     from (inr none) = absurd (differ (sym some ∙ (sym (among_open past t) ∙ none.0)))
 
+-- where no number stands twice, each stands at most once
 pub apart_once : (txns : List ℕ) (n : ℕ) → AreApart txns → times n txns ≤ 1
 apart_once [] n apart = omega arith
 apart_once (x ∷ txns) n apart = from (eqb_tells x n) (among_times x txns) (apart_once txns n apart.1)

@@ -22,6 +22,7 @@ use Rattle.channel_replay.specs.Rules.{IsPut, IsPutOf, IsTake, IsTakeOf, IsTxn, 
 use Rattle.channel_replay.specs.Open.{GoesOn, keys, put_entry}
 use Rattle.channel_replay.specs.Recovery.{Agrees, AppliesTo, SettlesPuts, SettlesTakes}
 
+-- each open transaction of what agrees is kept once
 pub once : (base : Base) (past : Past) (r : Recovery) → Agrees base past r → EachOnce (keys r.opened.items)
 once base past r a n = subst (λ (l : List ℕ). times n l ≤ 1) (sym a.keys_are) (open_once past n)
 
@@ -74,6 +75,7 @@ put_below base past old txn event a t n more = by_test (txn == t)
     by_test true = refl
     by_test false = a.held_below t n more
 
+-- a put is applied where it is legal, and refused only where it is not
 pub put_applies : (ok : Bool) (txn : ℕ) (event : Content) (old new : Recovery) → IsTxn txn → new.items.items ≡ old.items.items → new.number ≡ old.number → new.txn ≡ max (txn + 1) old.txn
     → GoesOn ok old.opened.items txn IsPut (λ entry. Puts (events_of entry ++ event ∷ [])) new.opened.items → AppliesTo ok old (Put txn event) new
 put_applies true txn event old new is items number above goes base past a =
@@ -85,6 +87,7 @@ put_applies false txn event old new is items number above goes base past a = λ 
 
 -- an opened transaction of takes
 
+-- an item's number is below what all the items' numbers are below
 pub among_below : (number low : ℕ) (items : Items) → AllByRecursion (λ item. item.0 < low) items → is_among (map (λ item. item.0) items) number ≡ true → number < low
 among_below number low [] below is = absurd (let e : false ≡ true = is in cc)
 among_below number low (item ∷ items) below is = from (eqb_tells item.0 number) is (among_below number low items below.1)
@@ -93,6 +96,7 @@ among_below number low (item ∷ items) below is = from (eqb_tells item.0 number
     from (inl here) is rest = omega (arith, below.0, here.1)
     from (inr there) is rest = rest (rw there.0 at is)
 
+-- a number below a bound is not one from the bound on
 pub not_that : (number n low : ℕ) → number < low → low ≤ n → (number == n) ≡ false
 not_that number n low less more = from (eqb_tells number n)
   where
@@ -120,13 +124,16 @@ not_held base past old number a none held =
     let h : is_among (taken_numbers (entries old.opened.items)) number ≡ true = held_among old.opened.items number held.0 (ap (λ (e : Option Entry). is_among (numbers_of e) number) (a.each held.0) ∙ held.1) in
     let e : false ≡ true = sym none ∙ h in cc
 
+-- a take of an event that is not left is not legal
 pub not_left_applies : (txn number : ℕ) (old new : Recovery) → is_among (map (λ item. item.0) old.items.items) number ≡ false → AppliesTo false old (Take txn number) new
 not_left_applies txn number old new none base past a legal =
     let e : false ≡ true = sym none ∙ (ap (λ (l : Items). is_among (map (λ (item : ℕ × Content). item.0) l) number) a.items ∙ legal.2) in cc
 
+-- a take of an event that an open take holds is not legal
 pub held_applies : (txn number : ℕ) (old new : Recovery) → is_among (taken_numbers (entries old.opened.items)) number ≡ true → AppliesTo false old (Take txn number) new
 held_applies txn number old new held base past a legal = legal.3 (is_held base past old number a held)
 
+-- a take of an event that is left and free is applied where it is legal, and refused only where it is not
 pub take_applies : (ok : Bool) (txn number : ℕ) (old new : Recovery) → IsTxn txn → is_among (map (λ item. item.0) old.items.items) number ≡ true → is_among (taken_numbers (entries old.opened.items)) number ≡ false
     → new.items.items ≡ old.items.items → new.number ≡ old.number → new.txn ≡ max (txn + 1) old.txn
     → GoesOn ok old.opened.items txn IsTake (λ entry. Takes (numbers_of entry ++ number ∷ [])) new.opened.items → AppliesTo ok old (Take txn number) new
@@ -140,6 +147,7 @@ take_applies false txn number old new is there free items same above goes base p
 
 -- a transaction ends
 
+-- the open transactions when one has ended
 pub ended_keys : (base : Base) (past : Past) (old : Recovery) (txn : ℕ) (new : List (ℕ × Entry)) → Agrees base past old → new ≡ without_entry txn old.opened.items → keys new ≡ removed txn (open_txns past)
 ended_keys base past old txn new a is = ap keys is ∙ keys-without old.opened.items txn (once base past old a) ∙ ap (removed txn) a.keys_are
 
@@ -154,6 +162,7 @@ ended_below base past old txn a t n more = by_test (txn == t)
     by_test true = refl
     by_test false = a.held_below t n more
 
+-- a rollback is legal just where the transaction is open, and then ends it
 pub rolled_back : (entry : Option Entry) (txn : ℕ) (old new : Recovery) → IsTxn txn → entry ≡ entry_of txn old.opened.items → new.items.items ≡ old.items.items → new.number ≡ old.number → new.txn ≡ max (txn + 1) old.txn
     → new.opened.items ≡ without_entry txn old.opened.items → AppliesTo (is_some entry) old (Rollback txn) new
 rolled_back None txn old new is entry_is items number above ended base past a = λ legal.
@@ -209,6 +218,7 @@ committed_takes base past old numbers a =
       ap (λ (b : Base). b.first) whole ∙ omega (arith, a.number),
     )
 
+-- after the commit of a put, what is kept agrees with one record more
 pub put_committed : (base : Base) (past : Past) (old new : Recovery) (txn first count : ℕ) (events : List Content) → Agrees base past old → entry_of txn old.opened.items ≡ Some (Puts events)
     → new.items.items ≡ old.items.items ++ numbered old.number events → new.number ≡ old.number + length events → new.txn ≡ max (txn + 1) old.txn → new.opened.items ≡ without_entry txn old.opened.items
     → Agrees base (Applied (CommitPut txn first count) ∷ past) new
@@ -236,6 +246,7 @@ all_without low numbers (item ∷ items) x = by_test (is_among numbers item.0) (
     by_test true rest = rest
     by_test false rest = (x.0, rest)
 
+-- after the commit of a take, what is kept agrees with one record more
 pub take_committed : (base : Base) (past : Past) (old new : Recovery) (txn count : ℕ) (numbers : List ℕ) → Agrees base past old → entry_of txn old.opened.items ≡ Some (Takes numbers)
     → new.items.items ≡ without numbers old.items.items → new.number ≡ old.number → new.txn ≡ max (txn + 1) old.txn → new.opened.items ≡ without_entry txn old.opened.items
     → Agrees base (Applied (CommitTake txn count) ∷ past) new
@@ -288,6 +299,7 @@ takes_settle false txn count numbers old seen new is entry items number above en
 pub no_puts : (entry : Option Entry) (txn first count : ℕ) (old new : Recovery) → entry ≡ entry_of txn old.opened.items → (IsSomeAnd entry (IsPutOf count) → ⊥) → AppliesTo false old (CommitPut txn first count) new
 no_puts entry txn first count old new is none base past a legal = none (rw (sym (a.each txn) ∙ sym is) at legal.1)
 
+-- the commit of a take is not legal where no take of that count is open
 pub no_takes : (entry : Option Entry) (txn count : ℕ) (old new : Recovery) → entry ≡ entry_of txn old.opened.items → (IsSomeAnd entry (IsTakeOf count) → ⊥) → AppliesTo false old (CommitTake txn count) new
 no_takes entry txn count old new is none base past a legal = none (rw (sym (a.each txn) ∙ sym is) at legal.1)
 

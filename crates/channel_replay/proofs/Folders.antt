@@ -44,6 +44,7 @@ above None n low high = tt
 above (Some (Log a)) n low high = grind (arith, nat_tests)
 above (Some (Check a)) n low high = absurd (omega (arith, low, high))
 
+-- a log file that comes after a name has at least the floor of that name as its number
 pub above_floor : (after : Option FileName) (n : ℕ) → IsAbove after (Log n) → floor after ≤ n
 above_floor None n is = omega arith
 above_floor (Some (Log a)) n is = grind (arith, nat_tests)
@@ -98,9 +99,11 @@ next_file files after file (log ∷ more) are next high = ⊎_elim low_case high
 abbrev pub NoLogs : Option FileName → Files → Type 0
 NoLogs after files = (n : ℕ) → floor after ≤ n → n < 2 ^ 32 → files (Log n) ≡ None
 
+-- where no name comes next, no log file is left
 pub no_name : (files : Files) (after : Option FileName) → IsNext files after None → NoLogs after files
 no_name files after next n low high = next (Log n) (above after n low high)
 
+-- where a checkpoint comes next, no log file is left
 pub no_log : (files : Files) (after : Option FileName) (check : ℕ) → IsNext files after (Some (Check check)) → NoLogs after files
 no_log files after check next n low high = next.2 (Log n) (above after n low high) refl
 
@@ -149,6 +152,7 @@ folders_all was told faulty faults after now none steps on ends t is logs are =
     let all : u.done ≡ logs = sym (append-nil u.done) ∙ ap (λ (l : List LogFile). u.done ++ l) (sym (no_rest t.reads after u.rest u.are (ends t (on.same ∙ is)))) ∙ sym u.split in
     (subst (λ (l : List LogFile). AreSound empty_base [] (lines l)) all u.sound, subst (λ (l : List LogFile). Agrees empty_base (past_lines [] (lines l)) now) all u.agrees)
 
+-- replaying a folder takes no more steps than its log files have records
 pub folders_ticks : (was told : Option Told) (faulty faults from : ℕ) (now : Recovery) (none steps more : ℕ) → FoldersOn was told faulty faults from now none steps → more ≡ steps → WhereTold was (λ t. WhereLogs t.reads (λ logs. more ≤ none + record_count (lines logs)))
 folders_ticks was told faulty faults from now none steps more on same t is logs are =
     let u = on.on t is logs are in
@@ -175,6 +179,7 @@ folders_bad was told faulty faults after file now none steps e on next high bad 
     (fault_front empty_base [] (lines u.done ++ file_lines file n.log.content) (lines n.more) f at (fault_append empty_base [] (lines u.done) (file_lines file n.log.content) f at u.sound fault)))
     bad
 
+-- no more steps than records, also while the next file is being read
 pub folders_few : (was told : Option Told) (faulty faults : ℕ) (after : Option FileName) (file : ℕ) (now : Recovery) (none steps more_steps : ℕ)
     → FoldersOn was told faulty faults (floor after) now none steps → WhereTold told (λ t. IsNext t.reads after (Some (Log file))) → file < 2 ^ 32
     → WhereHolds told file (λ content. more_steps ≤ steps + record_count (file_lines file content))
@@ -195,6 +200,7 @@ folders_few was told faulty faults after file now none steps more_steps on next 
 same_base : (a b : Base) → a.items ≡ b.items → a.first ≡ b.first → a ≡ b
 same_base a b items first = rw (items, first) refl
 
+-- what was made of log files without fault is what they stand for
 pub recovered : (logs : List LogFile) (now : Recovery) (r : Replayed) → AreSound empty_base [] (lines logs) × Agrees empty_base (past_lines [] (lines logs)) now → r.items.items ≡ now.items.items → r.next.number ≡ now.number → r.next.txn ≡ now.txn → StandsFor logs (base_of r) r.next.txn
 recovered logs now r is items number txn = record {
   sound = is.0;
@@ -208,6 +214,7 @@ replayed_base now r reached items number =
     let all : base_of r ≡ after_journal empty_base (journal reached.0) = same_base (base_of r) (after_journal empty_base (journal reached.0)) (items ∙ reached.1.items) (number ∙ reached.1.number) in
     subst IsBase (sym all) (base_rising (after_journal empty_base (journal reached.0)) (rising-left empty_base (journal reached.0) (omega arith)))
 
+-- the next transaction number of a replay is at least 1
 pub replayed_txn : (now : Recovery) (r : Replayed) → IsReached now → r.next.txn ≡ now.txn → 1 ≤ r.next.txn
 replayed_txn now r reached txn = omega (arith, txn, reached.1.txn, some_txn reached.0)
 

@@ -39,6 +39,7 @@ apart_by o t t' other here there = from (eqb_tells o t') (eqb_tells t t')
     from (inl a) (inr b) = absurd (cc)
     from (inr a) b = absurd (cc)
 
+-- what each transaction has open after an entry was put in its place
 pub entry_of-put : (opened : List (ℕ × Entry)) (t t' : ℕ) (e : Entry) → entry_of t' (put_entry t e opened) ≡ cond (t == t') (Some e) (entry_of t' opened)
 entry_of-put [] t t' e = refl
 entry_of-put (o ∷ opened) t t' e = from (eqb_tells o.0 t) (entry_of-put opened t t' e)
@@ -64,6 +65,7 @@ rest_once o txns once n = omega (arith, once n)
 first_gone : (o t : ℕ) (txns : List ℕ) → EachOnce (o ∷ txns) → o ≡ t → times t txns ≡ 0
 first_gone o t txns once same = omega (arith, once t, same_number o t same)
 
+-- what each transaction has open when one was removed
 pub entry_of-without : (opened : List (ℕ × Entry)) (t t' : ℕ) → EachOnce (keys opened) → entry_of t' (without_entry t opened) ≡ cond (t == t') None (entry_of t' opened)
 entry_of-without [] t t' once = none (t == t') None refl
   where
@@ -80,6 +82,7 @@ entry_of-without (o ∷ opened) t t' once = from (eqb_tells o.0 t) (eqb_tells t 
         rw (here.0, other.0, not_here) refl
     from (inr there) tells rest = rw (there.0, rest) (both_ways (o.0 == t') (t == t') (Some o.1) None (entry_of t' opened) (apart_by o.0 t t' there.1))
 
+-- the numbers of the transactions after an entry was put in its place
 pub keys-put : (opened : List (ℕ × Entry)) (t : ℕ) (e : Entry) → keys (put_entry t e opened) ≡ added t (keys opened)
 keys-put [] t e = refl
 keys-put (o ∷ opened) t e = from (eqb_tells o.0 t) (keys-put opened t e)
@@ -100,6 +103,7 @@ removed_none t (x ∷ txns) none = from (eqb_tells x t) (removed_none t txns)
     from (inl here) rest = absurd (omega (arith, none, same_number x t here.1))
     from (inr there) rest = rw there.0 (ap (λ (l : List ℕ). x ∷ l) (rest (omega (arith, none, other_number x t there.1))))
 
+-- the numbers of the transactions when one was removed
 pub keys-without : (opened : List (ℕ × Entry)) (t : ℕ) → EachOnce (keys opened) → keys (without_entry t opened) ≡ removed t (keys opened)
 keys-without [] t once = refl
 keys-without (o ∷ opened) t once = from (eqb_tells o.0 t) (keys-without opened t (rest_once o.0 (keys opened) once))
@@ -108,6 +112,7 @@ keys-without (o ∷ opened) t once = from (eqb_tells o.0 t) (keys-without opened
     from (inl here) rest = rw here.0 (sym (removed_none t (keys opened) (first_gone o.0 t (keys opened) once here.1)))
     from (inr there) rest = rw there.0 (ap (λ (l : List ℕ). o.0 ∷ l) rest)
 
+-- there are as many numbers as open transactions
 pub length-keys : (opened : List (ℕ × Entry)) → length (keys opened) ≡ length opened
 length-keys [] = refl
 length-keys (o ∷ opened) = ap suc (length-keys opened)
@@ -143,6 +148,7 @@ by_rec (CommitPut txn first count) txns once = removed_once txn txns once
 by_rec (CommitTake txn count) txns once = removed_once txn txns once
 by_rec (End count) txns once = once
 
+-- no transaction is open twice
 pub open_once : (past : Past) → EachOnce (open_txns past)
 open_once [] n = omega arith
 open_once (Dropped ∷ past) n = omega arith
@@ -158,6 +164,7 @@ or_true : (a b : Bool) → b ≡ true → (a || b) ≡ true
 or_true true b is = refl
 or_true false b is = is
 
+-- a number that some transaction took is among those that open takes hold
 pub held_among : (opened : List (ℕ × Entry)) (n t : ℕ) → is_among (numbers_of (entry_of t opened)) n ≡ true → is_among (taken_numbers (entries opened)) n ≡ true
 held_among [] n t is = is
 held_among (o ∷ opened) n t is = from (o.0 == t) is (held_among opened n t)
@@ -166,6 +173,7 @@ held_among (o ∷ opened) n t is = from (o.0 == t) is (held_among opened n t)
     from true is rest = among_here o.1 (entries opened) n (among_one o.1 n ∙ is)
     from false is rest = among_entry o.1 (entries opened) n ∙ or_true (is_among (taken_numbers (o.1 ∷ [])) n) (is_among (taken_numbers (entries opened)) n) (rest is)
 
+-- a number that open takes hold was taken by some transaction
 pub among_held : (opened : List (ℕ × Entry)) (n : ℕ) → EachOnce (keys opened) → is_among (taken_numbers (entries opened)) n ≡ true → (t : ℕ) × (is_among (numbers_of (entry_of t opened)) n ≡ true)
 among_held [] n once is = (0, is)
 among_held (o ∷ opened) n once is = from (is_among (taken_numbers (o.1 ∷ [])) n) refl (sym (among_entry o.1 (entries opened) n) ∙ is) (among_held opened n (rest_once o.0 (keys opened) once))

@@ -27,6 +27,7 @@ done_tells (Puts (e ∷ events)) = inl refl
 done_tells (Takes []) = inr refl
 done_tells (Takes (n ∷ numbers)) = inl refl
 
+-- what a transaction has in a checkpoint is what it did, if it did anything
 pub busy_entry : (os : List (ℕ × Entry)) (t : ℕ) → AreApart (keys os) → entry_of t (busy_ones os) ≡ done_of (entry_of t os)
 busy_entry [] t apart = refl
 busy_entry (o ∷ os) t apart = from (done_tells o.1) (eqb_tells o.0 t) (busy_entry os t apart.1)
@@ -40,6 +41,7 @@ busy_entry (o ∷ os) t apart = from (done_tells o.1) (eqb_tells o.0 t) (busy_en
         rw (idle, same.0) (rest ∙ (ap done_of none ∙ sym idle))
     from (inr idle) (inr other) rest = rw (idle, other.0) rest
 
+-- the start that is laid of a settled state follows the one it came from
 pub laid_follows : LaidFollows
 laid_follows c lines s apart settled = record {
   base = settled.base;

@@ -15,10 +15,12 @@ use Rattle.channel_replay.specs.declared.refused.RecoverRefused.TheVariants as r
 use Rattle.event_core.specs.declared.refused.NoMemory.{NoMemory}
 use Rattle.channel_replay.specs.Recovery.{Agrees, IsRecovered}
 
+-- the marks after two runs of lines are those of the second after the first
 pub past_lines-append : (past : Past) (a b : List Line) → past_lines past (a ++ b) ≡ past_lines (past_lines past a) b
 past_lines-append past [] b = refl
 past_lines-append past (line ∷ a) b = past_lines-append (past_line past line) a b
 
+-- two runs of sound lines, one after the other, are sound
 pub sound_append : (base : Base) (past : Past) (a b : List Line) → AreSound base past a → AreSound base (past_lines past a) b → AreSound base past (a ++ b)
 sound_append base past [] b sound more = more
 sound_append base past (line ∷ a) b sound more = (sound.0, sound_append base (past_line past line) a b sound.1 more)
@@ -54,6 +56,7 @@ pub record AppliedTo (all rest : List Line) (r : Recovery) : Type 0 where
   pub sound : AreSound empty_base [] done
   pub agrees : Agrees empty_base (past_lines [] done) r
 
+-- one line more was applied
 pub applied_more : (all rest more : List Line) (line : Line) (old new : Recovery) → AppliedTo all rest old → rest ≡ line ∷ more
     → ((base : Base) (past : Past) → Agrees base past old → IsSound base past line × Agrees base (past_line past line) new) → AppliedTo all more new
 applied_more all rest more line old new on is applies =
@@ -65,6 +68,7 @@ applied_more all rest more line old new on is applies =
       agrees = subst (λ (p : Past). Agrees empty_base p new) (sym (past_lines-append [] on.done (line ∷ []))) next.1;
     }
 
+-- a line that is not sound after those that were applied is the first fault of all
 pub applied_bad : (all rest more : List Line) (line : Line) (old : Recovery) (file at : ℕ) → AppliedTo all rest old → rest ≡ line ∷ more
     → IsAt line file at × ((base : Base) (past : Past) → Agrees base past old → IsSound base past line → ⊥) → HasFault empty_base [] all file at
 applied_bad all rest more line old file at on is bad = record {
@@ -80,6 +84,7 @@ applied_bad all rest more line old file at on is bad = record {
 same_base : (a b : Base) → a.items ≡ b.items → a.first ≡ b.first → a ≡ b
 same_base a b items first = rw (items, first) refl
 
+-- the next transaction number is at least 1
 pub some_txn : (past : Past) → 1 ≤ next_txn past
 some_txn [] = omega arith
 some_txn (Dropped ∷ past) = some_txn past
@@ -99,6 +104,7 @@ stands_for logs found r same is = record {
 
 -- Files that were read, one after another.
 
+-- the lines of two runs of log files, one after the other
 pub lines-append : (a b : List LogFile) → lines (a ++ b) ≡ lines a ++ lines b
 lines-append [] b = refl
 lines-append (log ∷ a) b = ap (λ (l : List Line). file_lines log.number log.content ++ l) (lines-append a b) ∙ sym (append_assoc (file_lines log.number log.content) (lines a) (lines b))
@@ -114,6 +120,7 @@ are_of-push [] (l ∷ logs) file log are number holds = absurd are
 are_of-push (f ∷ files) [] file log are number holds = absurd are
 are_of-push (f ∷ files) (l ∷ logs) file log are number holds = (are.0, are.1, are_of-push files logs file log are.2 number holds)
 
+-- one whole file more was read
 pub files_more : (files : List WholeFile) (file : WholeFile) (now new : List Line) → FilesOn files now → AddsFile file.bytes.items file.number now new → FilesOn (files ++ file ∷ []) new
 files_more files file now new on adds =
     let log : LogFile = record { number = file.number; content = adds.content } in
@@ -125,14 +132,17 @@ files_more files file now new on adds =
 
 -- of answers
 
+-- what follows of each list that was recovered follows of the answer
 pub recovered_maps : (r : Result Replayed RecoverRefused) (P Q : Replayed → Type 0) → ((x : Replayed) → P x → Q x) → IfOk r P → IfOk r Q
 recovered_maps (Ok x) P Q maps is = maps x is
 recovered_maps (Err e) P Q maps is = tt
 
+-- what follows of a success follows of the answer, where memory may be out
 pub when_ok : (r : Result (Unit {0}) NoMemory) (P Q : Type 0) → (P → Q) → OnOk r P → OnOk r Q
 when_ok (Ok done) P Q maps is = maps is
 when_ok (Err e) P Q maps is = tt
 
+-- what follows of each place of a fault follows of a refusal to recover
 pub bad_maps : (e : RecoverRefused) (P Q : ℕ → ℕ → Type 0) → ((file at : ℕ) → P file at → Q file at) → WhereBad e P → WhereBad e Q
 bad_maps (refusals.BadLog file at) P Q maps is = maps file at is
 bad_maps refusals.NoMemory P Q maps is = tt

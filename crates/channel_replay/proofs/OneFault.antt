@@ -10,6 +10,7 @@ sound_behind : (base : Base) (past : Past) (a b : List Line) → AreSound base p
 sound_behind base past [] b sound = sound
 sound_behind base past (line ∷ a) b sound = sound_behind base (past_line past line) a b sound.1
 
+-- a folder that recovers has no fault
 pub not_both : RecoversOrBad
 not_both files left txn file at recovers bad =
     let one = has_one_list files in
@@ -38,6 +39,7 @@ same_place Begins file at file' at' here there = absurd here
 same_place (Stands f a rec) file at file' at' here there = (here.0 ∙ sym there.0, here.1 ∙ sym there.1)
 same_place (Faulty f a) file at file' at' here there = (here.0 ∙ sym there.0, here.1 ∙ sym there.1)
 
+-- the first fault of a folder is at one place
 pub one_fault : HasOneFault
 one_fault files file at file' at' first second =
     let one = has_one_list files in

@@ -23,6 +23,7 @@ which m n = grind arith
 same_log : (a b : LogFile) → a.number ≡ b.number → a.content ≡ b.content → a ≡ b
 same_log a b number content = rw (number, content) refl
 
+-- two lists of a folder's log files between the same numbers are one
 pub one_list : (files : Files) (from to : ℕ) (a b : List LogFile) → AreLogs files from to a → AreLogs files from to b → a ≡ b
 one_list files from to [] [] x y = refl
 one_list files from to [] (log ∷ b) x y = absurd (some_none (files (Log log.number)) (λ bytes. Holds log.number bytes log.content) y.3 (x log.number y.0 y.1))
@@ -54,6 +55,7 @@ wider files from to (log ∷ logs) none are = (omega (arith, are.0), are.1, (λ 
     by_place k high (inl same) = subst (λ (n : ℕ). files (Log n) ≡ None) (sym same) none
     by_place k high (inr later) = are.2 k later high
 
+-- there is a list of the log files in any range of numbers
 pub logs_from : (n : ℕ) (files : Files) (from to : ℕ) → from + n ≡ to → (logs : List LogFile) × AreLogs files from to logs
 logs_from zero files from to is = ([], λ k low high. absurd (omega (arith, is, low, high)))
 logs_from (suc n) files from to is = by_file (files (Log from)) refl (logs_from n files (from + 1) to (omega (arith, is)))
@@ -66,11 +68,13 @@ logs_from (suc n) files from to is = by_file (files (Log from)) refl (logs_from 
         let here : IsSomeAnd (files (Log from)) (λ bytes. Holds from bytes held.0) = subst (λ (f : Option (List ℕ)). IsSomeAnd f (λ bytes. Holds from bytes held.0)) (sym some) held.1 in
         (log ∷ rest.0, (omega arith, omega (arith, is), (λ k low high. absurd (omega (arith, low, high))), here, rest.1))
 
+-- a folder has one list of log files, and no other
 pub has_one_list : HasOneList
 has_one_list files =
     let some = logs_from (2 ^ 32) files 0 (2 ^ 32) (omega arith) in
     (some.0, some.1, λ others are. one_list files 0 (2 ^ 32) others some.0 are some.1)
 
+-- a folder recovers to one list and to one transaction number
 pub recovers_once : RecoversOnce
 recovers_once files a b x y first second =
     let some = logs_from (2 ^ 32) files 0 (2 ^ 32) (omega arith) in

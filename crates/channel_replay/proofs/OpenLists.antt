@@ -12,9 +12,11 @@ use Rattle.channel_replay.specs.Open.{GoesOn, HasNone, IsAt, NoneBefore}
 rest_before : (o : ℕ × Entry) (opened : List (ℕ × Entry)) (txn place : ℕ) → NoneBefore (o ∷ opened) txn (suc place) → NoneBefore opened txn place
 rest_before o opened txn place before k x below is = before (suc k) x (omega (arith, below)) is
 
+-- a number is equal to itself
 pub itself : (n : ℕ) → (n == n) ≡ true
 itself n = grind (arith, nat_tests)
 
+-- the first place with the transaction's number is where it stands
 pub found : (opened : List (ℕ × Entry)) (txn place : ℕ) (entry : Entry) → NoneBefore opened txn place → slice_get opened place ≡ Some (txn, entry) → IsAt opened txn place entry
 found [] txn place entry before is = absurd (cc)
 found (o ∷ opened) txn zero entry before is =
@@ -39,6 +41,7 @@ found (o ∷ opened) txn (suc place) entry before is =
       changed = λ e. rw not_here (ap (λ (l : List (ℕ × Entry)). o ∷ l) (it.changed e));
     }
 
+-- a list that was searched to its end has no transaction of this number
 pub none : (opened : List (ℕ × Entry)) (txn : ℕ) → NoneBefore opened txn (length opened) → HasNone opened txn
 none [] txn before = record { entry_is = refl; rest = refl; added = λ e. refl }
 none (o ∷ opened) txn before =
@@ -50,6 +53,7 @@ none (o ∷ opened) txn before =
       added = λ e. rw not_here (ap (λ (l : List (ℕ × Entry)). o ∷ l) (it.added e));
     }
 
+-- the search goes on by one place where another transaction stands
 pub one_more : (opened : List (ℕ × Entry)) (txn place : ℕ) (o : ℕ × Entry) → NoneBefore opened txn place → slice_get opened place ≡ Some o → (o.0 == txn) ≡ false → NoneBefore opened txn (place + 1)
 one_more opened txn place o before is not_here k x below at = from (grind arith)
   where
@@ -71,6 +75,7 @@ puts_go_on opened new txn place event (Ok ok) at puts takes = by_kind at.0 at.1
         rw (done.0, is.entry_is) (tt, done.1 ∙ sym (is.changed (Puts (events ++ event ∷ []))))
     by_kind (Takes numbers) is = rw (takes txn numbers is.item, is.entry_is) (λ no. no)
 
+-- a take goes on at its place where a take is open there, and not where a put is
 pub takes_go_on : (opened new : List (ℕ × Entry)) (txn place number : ℕ) (r : Result Bool NoMemory) → (entry : Entry) × IsAt opened txn place entry
     → IfOk r (λ ok. (t : ℕ) (numbers : List ℕ) → slice_get opened place ≡ Some (t, Takes numbers) → (ok ≡ true) × (new ≡ slice_set opened place (t, Takes (numbers ++ number ∷ []))))
     → IfOk r (λ ok. (t : ℕ) (events : List Content) → slice_get opened place ≡ Some (t, Puts events) → ok ≡ false)

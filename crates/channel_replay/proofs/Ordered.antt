@@ -77,6 +77,7 @@ take_entry_of count None is = absurd is
 take_entry_of count (Some (Puts events)) is = absurd is
 take_entry_of count (Some (Takes numbers)) is = (numbers, refl)
 
+-- numbers stay in order after a legal record
 pub ordered_rec : (base : Base) (past : Past) (rec : Rec) → IsLegal base past rec → IsOrdered base past → IsOrdered base (Applied rec ∷ past)
 ordered_rec base past (Put txn event) legal are = kept base past (Put txn event) are refl (λ t n more. put_held past t n (txn == t) (events_of (opened t past) ++ event ∷ []) (are.held t n more))
 ordered_rec base past (Take txn number) legal are = kept base past (Take txn number) are refl (λ t n more. take_held base past t n number (txn == t) (left_below base past number are legal.2) more (are.held t n more))
@@ -91,15 +92,18 @@ ordered_rec base past (CommitTake txn count) legal are =
     (λ t n more. ended past t n (txn == t) (are.held t n more))
 ordered_rec base past (End count) legal are = absurd legal
 
+-- numbers stay in order after a sound line
 pub ordered_line : (base : Base) (past : Past) (line : Line) → IsSound base past line → IsOrdered base past → IsOrdered base (past_line past line)
 ordered_line base past Begins sound are = record { rising = are.rising; held = λ t n more. refl; taken = are.taken }
 ordered_line base past (Stands file at rec) sound are = ordered_rec base past rec sound are
 ordered_line base past (Faulty file at) sound are = absurd sound
 
+-- numbers stay in order after sound lines
 pub ordered_lines : (base : Base) (past : Past) (lines : List Line) → AreSound base past lines → IsOrdered base past → IsOrdered base (past_lines past lines)
 ordered_lines base past [] sound are = are
 ordered_lines base past (line ∷ lines) sound are = ordered_lines base (past_line past line) lines sound.1 (ordered_line base past line sound.0 are)
 
+-- where numbers are in order, committed takes are of earlier numbers than the next one
 pub takes_earlier : (base : Base) (past : Past) → IsOrdered base past → TakesEarlier base (journal past)
 takes_earlier base past are n more = from (among_times n (taken_numbers (journal past)))
   where

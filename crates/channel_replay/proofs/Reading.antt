@@ -25,6 +25,7 @@ pub record LinesOn (frame : List ℕ) (place file from : ℕ) (was now : List Li
   pub lines : now ++ record_lines file (record_items (from + place) left) ≡ was ++ record_lines file (record_items from records)
   pub within : place ≤ length frame
 
+-- before the first record of a frame was read, all are left
 pub lines_none : (frame : List ℕ) (file from : ℕ) (was : List Line) → IsFrameBytes frame → LinesOn frame 0 file from was was
 unfolding frame_bytes
 lines_none frame file from was is = record {
@@ -52,6 +53,7 @@ some_left : (frame : List ℕ) (place : ℕ) (left : List Rec) (count : ℕ) →
 some_left frame place [] count rest less = absurd (omega (arith, ap length rest, length-drop place frame, less))
 some_left frame place (r ∷ rs) count rest less = record { first = r; more = rs; is = refl }
 
+-- before the end of a frame there are still records
 pub still_records : (frame : List ℕ) (place file from : ℕ) (was now : List Line) → LinesOn frame place file from was now → place < length frame → AreRecords (drop place frame)
 still_records frame place file from was now on less = by_left on.left on.each on.rest
   where
@@ -69,6 +71,7 @@ same_items : (at next place : ℕ) (first : Rec) (more : List Rec) → next ≡ 
 same_items at next place first [] is = refl
 same_items at next place first (r ∷ rs) is = ap (λ (n : ℕ). record_items n (r ∷ rs)) (omega (arith, is))
 
+-- one record more of a frame was read
 pub lines_more : (frame : List ℕ) (place file from : ℕ) (was now new : List Line) (rec : Rec) (next at : ℕ) → LinesOn frame place file from was now → place < length frame → GivesAt frame place rec next → next ≤ length frame → at ≡ from + place → new ≡ now ++ Stands file at rec ∷ []
     → LinesOn frame next file from was new
 lines_more frame place file from was now new rec next at on less gives within at_is added = by_left on.left on.each on.rest on.lines
@@ -92,6 +95,7 @@ lines_more frame place file from was now new rec next at on less gives within at
           within = within;
         }
 
+-- each record that is read brings the reader further
 pub goes_further : (frame : List ℕ) (place file from : ℕ) (was now : List Line) (rec : Rec) (next : ℕ) → LinesOn frame place file from was now → place < length frame → GivesAt frame place rec next → place < next
 goes_further frame place file from was now rec next on less gives = by_left on.left on.each on.rest
   where
@@ -115,10 +119,12 @@ pub record FramesOn (bytes : List ℕ) (gate file : ℕ) (was now : List Line) :
   pub within : gate < length bytes
   pub lines : now ≡ was ++ record_lines file (frame_items 16 done)
 
+-- the lines of two runs of records, one after the other
 pub record_lines-append : (file : ℕ) (a b : List (Rec × ℕ)) → record_lines file (a ++ b) ≡ record_lines file a ++ record_lines file b
 record_lines-append file [] b = refl
 record_lines-append file (item ∷ a) b = ap (λ (l : List Line). Stands file item.1 item.0 ∷ l) (record_lines-append file a b)
 
+-- the records of one frame more, with their offsets
 pub frame_items-push : (gate : ℕ) (frames : List (List Rec)) (frame : List Rec) → frame_items gate (frames ++ frame ∷ []) ≡ frame_items gate frames ++ record_items (gate + length (opened frames) + 1) frame
 frame_items-push gate [] frame = append-nil (record_items (gate + 1) frame) ∙ ap (λ (n : ℕ). record_items n frame) (omega arith)
 frame_items-push gate (f ∷ fs) frame =
@@ -135,6 +141,7 @@ pub frame_there : (bytes : List ℕ) (gate next : ℕ) (frame : List ℕ) (e : E
 frame_there bytes gate next frame e is =
     is ∙ ap (take (next - (gate + 1))) e.split ∙ ap (λ (n : ℕ). take n (frame_bytes e.frame ++ drop next bytes)) (omega (arith, e.long)) ∙ take-append_seam (frame_bytes e.frame) (drop next bytes)
 
+-- one frame more of a file was read
 pub frames_more : (bytes : List ℕ) (gate next file at : ℕ) (frame : List ℕ) (was now new : List Line) → FramesOn bytes gate file was now → get_or bytes gate 0 ≡ 1 → next < length bytes → EndsAt bytes gate next → frame ≡ take (next - (gate + 1)) (drop (gate + 1) bytes) → at ≡ gate + 1 → AddsFrame frame file at now new
     → FramesOn bytes next file was new
 frames_more bytes gate next file at frame was now new on one within e frame_is at_is adds =
@@ -153,6 +160,7 @@ frames_more bytes gate next file at frame was now new on one within e frame_is a
           ∙ ap (λ (l : List Line). was ++ l) (sym (record_lines-append file (frame_items 16 on.done) (record_items (16 + length (opened on.done) + 1) f)) ∙ ap (record_lines file) (sym (frame_items-push 16 on.done f)));
     }
 
+-- where a commit byte has no frame after it, the file's lines end with a fault there
 pub frames_bad : (bytes : List ℕ) (gate file at : ℕ) (was now new : List Line) → FramesOn bytes gate file was now → get_or bytes gate 0 ≡ 1 → OpensNone (drop (gate + 1) bytes) → at ≡ gate → new ≡ now ++ Faulty file at ∷ [] → AddsFrames bytes file was new
 frames_bad bytes gate file at was now new on one none at_is added = record {
   frames = on.done;
@@ -168,6 +176,7 @@ length-header : (birth number : ℕ) → length (header birth number) ≡ 16
 unfolding header u16_bytes u32_bytes
 length-header birth number = refl
 
+-- a file with a wrong header has a fault at its front and no other line
 pub wrong_header : (bytes : List ℕ) (file : ℕ) (head : List ℕ) (was new : List Line) → 17 < length bytes → head ≡ take 16 bytes → ((birth : ℕ) → IsBirth birth → head ≡ header birth file → ⊥) → new ≡ was ++ Faulty file 0 ∷ [] → AddsFile bytes file was new
 wrong_header bytes file head was new long head_is none added = record {
   content = BadHeader;
@@ -175,6 +184,7 @@ wrong_header bytes file head was new long head_is none added = record {
   lines = added;
 }
 
+-- a file with a right header has the lines of its frames, after the one that drops what is open
 pub right_header : (bytes : List ℕ) (file birth : ℕ) (head : List ℕ) (was began new : List Line) → 17 < length bytes → head ≡ take 16 bytes → IsBirth birth → head ≡ header birth file → began ≡ was ++ cond (birth == 1) (Begins ∷ []) [] → AddsFrames bytes file began new → AddsFile bytes file was new
 right_header bytes file birth head was began new long head_is is same begins adds = by_end adds.goes
   where

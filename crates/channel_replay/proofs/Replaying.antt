@@ -25,20 +25,24 @@ use Rattle.channel_replay.proofs.Reading.{record_lines-append}
 
 -- refusals of one kind as those of another
 
+-- a fault that the reader of frames found, as a fault of the log
 pub frame_bad : (e : FrameRefused) (P : ℕ → ℕ → Type 0) → FrameBad e P → WhereBadLog (as_frame e) P
 frame_bad frames.DiskFault P is = tt
 frame_bad (frames.BadLog file at) P is = is
 frame_bad frames.NoMemory P is = tt
 
+-- a fault that the check of a record found, as a fault of the log
 pub record_bad : (e : RecoverRefused) (P : ℕ → ℕ → Type 0) → WhereBad e P → WhereBadLog (as_record e) P
 record_bad (records.BadLog file at) P is = is
 record_bad records.NoMemory P is = tt
 
+-- what follows of each place of a fault follows where a frame was refused
 pub frame_maps : (e : FrameRefused) (P Q : ℕ → ℕ → Type 0) → ((file at : ℕ) → P file at → Q file at) → FrameBad e P → FrameBad e Q
 frame_maps frames.DiskFault P Q maps is = tt
 frame_maps (frames.BadLog file at) P Q maps is = maps file at is
 frame_maps frames.NoMemory P Q maps is = tt
 
+-- what follows of each place of a fault follows where a replay was refused
 pub log_maps : (e : ReplayRefused) (P Q : ℕ → ℕ → Type 0) → ((file at : ℕ) → P file at → Q file at) → WhereBadLog e P → WhereBadLog e Q
 log_maps refusals.DiskFault P Q maps is = tt
 log_maps (refusals.BadLog file at) P Q maps is = maps file at is
@@ -47,12 +51,14 @@ log_maps refusals.NoMemory P Q maps is = tt
 
 -- lines after lines
 
+-- lines that were applied after others were applied with them as one run
 pub applies_append : (a b : List Line) (old mid new : Recovery) → AppliesAll a old mid → AppliesAll b mid new → AppliesAll (a ++ b) old new
 applies_append a b old mid new first second base past agrees =
     let one = first base past agrees in
     let two = second base (past_lines past a) one.1 in
     (sound_append base past a b one.0 two.0, subst (λ (p : Past). Agrees base p new) (sym (past_lines-append past a b)) two.1)
 
+-- how many records two runs of lines have
 pub record_count-append : (a b : List Line) → record_count (a ++ b) ≡ record_count a + record_count b
 record_count-append [] b = omega arith
 record_count-append (Begins ∷ a) b = record_count-append a b
@@ -79,6 +85,7 @@ pub record ReadsOn (was told : Option Told) (faulty faults file : ℕ) (first re
   pub reached : IsReached start → IsReached now
   pub on : (bytes : List ℕ) (items : List (Rec × ℕ)) (fault : Option ℕ) → HasFile was file bytes → Remains first bytes items fault → ReadUpTo file reader bytes items fault start now none steps
 
+-- before the first record of a file was read
 pub reads_none : (was : Option Told) (faulty file : ℕ) (first : Reader) (start : Recovery) (none : ℕ) → first.file ≡ file → ReadsOn was was faulty faulty file first first start start none none
 reads_none was faulty file first start none is = record {
   same = refl;
@@ -112,6 +119,7 @@ given_none (item ∷ more) next bytes fault gives = absurd gives
 abbrev pub AppliesOne : ℕ → ℕ → Rec → Recovery → Recovery → Type 0
 AppliesOne file at rec old new = (base : Base) (past : Past) → Agrees base past old → IsSound base past (Stands file at rec) × Agrees base (past_line past (Stands file at rec)) new
 
+-- one record more of a file was read and applied
 pub reads_more : (was told after : Option Told) (faulty faults more_faults file : ℕ) (first reader next : Reader) (start now new : Recovery) (none steps more_steps at : ℕ) (rec : Rec)
     → ReadsOn was told faulty faults file first reader start now none steps → GivesOf told reader (Some (rec, at)) next → next.file ≡ reader.file → more_steps ≡ steps + 1 → AppliesOne file at rec now new → after ≡ told → more_faults ≡ faults
     → ReadsOn was after faulty more_faults file first next start new none more_steps
@@ -134,6 +142,7 @@ reads_more was told after faulty faults more_faults file first reader next start
       };
 }
 
+-- where the reader gives no more, all that remained was applied, and there is no fault
 pub reads_end : (was told : Option Told) (faulty faults file : ℕ) (first reader next : Reader) (start now : Recovery) (none steps : ℕ)
     → ReadsOn was told faulty faults file first reader start now none steps → GivesOf told reader None next
     → (bytes : List ℕ) (items : List (Rec × ℕ)) (fault : Option ℕ) → HasFile was file bytes → Remains first bytes items fault → AppliesAll (record_lines file items ++ fault_lines file fault) start now
@@ -149,6 +158,7 @@ abbrev pub FaultOf : Option Told → ℕ → Reader → Recovery → ℕ → ℕ
 FaultOf was file first start f at =
     (bytes : List ℕ) (items : List (Rec × ℕ)) (fault : Option ℕ) → HasFile was file bytes → Remains first bytes items fault → (base : Base) (past : Past) → Agrees base past start → HasFault base past (record_lines file items ++ fault_lines file fault) f at
 
+-- a fault that the reader finds is the first one of what remained
 pub reads_fault : (was told : Option Told) (faulty faults file : ℕ) (first reader : Reader) (start now : Recovery) (none steps : ℕ) (e : FrameRefused)
     → ReadsOn was told faulty faults file first reader start now none steps
     → FrameBad e (λ f at. (f ≡ reader.file) × ((bytes : List ℕ) (items : List (Rec × ℕ)) (fault : Option ℕ) → HasFile told reader.file bytes → Remains reader bytes items fault → (items ≡ []) × (fault ≡ Some at)))
@@ -170,6 +180,7 @@ reads_fault was told faulty faults file first reader start now none steps e on b
     })
     bad)
 
+-- a record that was given and is not legal is the first fault of what remained
 pub reads_illegal : (was told : Option Told) (faulty faults file : ℕ) (first reader next : Reader) (start now : Recovery) (none steps at : ℕ) (rec : Rec) (e : RecoverRefused)
     → ReadsOn was told faulty faults file first reader start now none steps → GivesOf told reader (Some (rec, at)) next
     → WhereBad e (λ f a. IsAt (Stands file at rec) f a × ((base : Base) (past : Past) → Agrees base past now → IsSound base past (Stands file at rec) → ⊥))
@@ -200,11 +211,13 @@ reads_illegal was told faulty faults file first reader next start now none steps
 abbrev pub StepsOf : Option Told → ℕ → Reader → ℕ → ℕ → Type 0
 StepsOf was file first none steps = (bytes : List ℕ) (items : List (Rec × ℕ)) (fault : Option ℕ) → HasFile was file bytes → Remains first bytes items fault → steps ≤ none + length items
 
+-- reading takes no more steps than there are records
 pub reads_ticks : (was told : Option Told) (faulty faults file : ℕ) (first reader : Reader) (start now : Recovery) (none steps more : ℕ) → ReadsOn was told faulty faults file first reader start now none steps → more ≡ steps → StepsOf was file first none more
 reads_ticks was told faulty faults file first reader start now none steps more on is bytes items fault has remains =
     let u = on.on bytes items fault has remains in
     omega (arith, is, u.ticks, ap length u.split, length-append u.done u.rest)
 
+-- one step more for a record that was given is within the count of the records
 pub reads_one_tick : (was told : Option Told) (faulty faults file : ℕ) (first reader next : Reader) (start now : Recovery) (none steps more at : ℕ) (rec : Rec)
     → ReadsOn was told faulty faults file first reader start now none steps → GivesOf told reader (Some (rec, at)) next → more ≡ steps + 1 → StepsOf was file first none more
 reads_one_tick was told faulty faults file first reader next start now none steps more at rec on gives is bytes items fault has remains =
@@ -217,6 +230,7 @@ reads_one_tick was told faulty faults file first reader next start now none step
 abbrev pub IsFirst : Type 0
 IsFirst = ◌≡◌ {A = ℕ} 16 16
 
+-- a file drops what is open just where its content is of birth 1
 pub begins_as : (drops : Bool) (content : Content) → (drops ≡ true → IsFirst × IsBegun content) → (IsFirst × IsBegun content → drops ≡ true) → drop_lines drops ≡ begin_lines content
 begins_as true Blank to from = absurd ((to refl).1)
 begins_as false Blank to from = refl
@@ -235,10 +249,12 @@ begins_as drops (BadFrame birth frames) to from = by_birth drops birth to from (
     by_birth true birth to from (inr other) = absurd (other.1 ((to refl).1))
     by_birth false birth to from (inr other) = rw other.0 refl
 
+-- a file was applied where first its drop and then its records were
 pub file_applies : (file : ℕ) (content : Content) (drops : Bool) (old mid new : Recovery) → drop_lines drops ≡ begin_lines content → AppliesAll (drop_lines drops) old mid → AppliesAll (record_lines file (content_items content) ++ fault_lines file (fault_of content)) mid new → AppliesAll (file_lines file content) old new
 file_applies file content drops old mid new same begins rest =
     applies_append (begin_lines content) (record_lines file (content_items content) ++ fault_lines file (fault_of content)) old mid new (subst (λ (l : List Line). AppliesAll l old mid) same begins) rest
 
+-- a fault of a file's records is one of the whole file, after its drop
 pub file_fault : (file : ℕ) (content : Content) (drops : Bool) (old mid : Recovery) (f at : ℕ) → drop_lines drops ≡ begin_lines content → AppliesAll (drop_lines drops) old mid
     → ((base : Base) (past : Past) → Agrees base past mid → HasFault base past (record_lines file (content_items content) ++ fault_lines file (fault_of content)) f at)
     → (base : Base) (past : Past) → Agrees base past old → HasFault base past (file_lines file content) f at
@@ -246,6 +262,7 @@ file_fault file content drops old mid f at same begins fault base past agrees =
     let one = subst (λ (l : List Line). AppliesAll l old mid) same begins base past agrees in
     fault_append base past (begin_lines content) (record_lines file (content_items content) ++ fault_lines file (fault_of content)) f at one.0 (fault base (past_lines past (begin_lines content)) one.1)
 
+-- a file's lines have as many records as its content, so as many steps are allowed
 pub file_ticks : (file : ℕ) (content : Content) (none steps : ℕ) → steps ≤ none + length (content_items content) → steps ≤ none + record_count (file_lines file content)
 file_ticks file content none steps few =
     omega (arith, few, record_count-append (begin_lines content) (record_lines file (content_items content) ++ fault_lines file (fault_of content)), record_count-append (record_lines file (content_items content)) (fault_lines file (fault_of content)), record_count-items file (content_items content))
@@ -269,10 +286,12 @@ reaches lines old new applies from = (past_lines from.0 lines, (applies empty_ba
 
 -- of answers
 
+-- what follows of a success follows of the answer of a replay
 pub ok_maps : (r : Result (Unit {0}) ReplayRefused) (P Q : Type 0) → (P → Q) → OnOk r P → OnOk r Q
 ok_maps (Ok done) P Q maps is = maps is
 ok_maps (Err e) P Q maps is = tt
 
+-- what follows of each place of a fault follows of the answer of a replay
 pub err_log_maps : (r : Result (Unit {0}) ReplayRefused) (P Q : ℕ → ℕ → Type 0) → ((file at : ℕ) → P file at → Q file at) → IfErr r (λ e. WhereBadLog e P) → IfErr r (λ e. WhereBadLog e Q)
 err_log_maps (Ok done) P Q maps is = tt
 err_log_maps (Err e) P Q maps is = log_maps e P Q maps is

@@ -32,6 +32,7 @@ entry_commits_none : (txn : ℕ) (entry : Entry) (past : Past) → journal (entr
 entry_commits_none txn (Puts events) past = puts_commit_none txn events past
 entry_commits_none txn (Takes numbers) past = takes_commit_none txn numbers past
 
+-- the marks of what is open commit nothing
 pub open_commits_none : (os : List (ℕ × Entry)) (past : Past) → journal (open_marks os past) ≡ journal past
 open_commits_none [] past = refl
 open_commits_none (o ∷ os) past = open_commits_none os (entry_marks o.0 o.1 past) ∙ entry_commits_none o.0 o.1 past
@@ -148,6 +149,7 @@ or_none : (e : Option Entry) → or_open e None ≡ e
 or_none None = refl
 or_none (Some entry) = refl
 
+-- the marks of a start say of each transaction what it has open there
 pub start_each : (s : Start) (t : ℕ) → IsStart s → opened t (start_past s) ≡ entry_of t s.opened
 start_each s t is = each_open s.opened [] t is.apart is.some (nothing_open (keys s.opened)) ∙ or_none (entry_of t s.opened)
 
@@ -184,6 +186,7 @@ opens_as_many (o ∷ os) past apart some none =
     let one = entry_one_more o.0 o.1 past some.0 none.0 in
     omega (arith, rest, one)
 
+-- the marks of a start have as many open transactions as it has
 pub start_as_many : (s : Start) → IsStart s → length (open_txns (start_past s)) ≡ length s.opened
 start_as_many s is = let all = opens_as_many s.opened [] is.apart is.some (nothing_open (keys s.opened)) in omega (arith, all)
 

@@ -7,6 +7,7 @@ pub gained_last : {X Y : Type 0} (f : X → Y) (xs front : List X) (x : X) (old 
 gained_last f xs front x old mid new split is pushed =
     pushed ∙ ap (λ l. l ++ f x ∷ []) is ∙ append_assoc old (map f front) (f x ∷ []) ∙ ap (λ l. old ++ l) (sym (map-append f front (x ∷ []))) ∙ ap (λ l. old ++ map f l) (sym split)
 
+-- from a list of none nothing is gained
 pub gained_none : {X Y : Type 0} (f : X → Y) (xs : List X) (old : List Y) → length xs ≡ 0 → old ≡ old ++ map f xs
 gained_none f [] old none = sym (append-nil old)
 gained_none f (x ∷ xs) old none = absurd (omega (arith, none))

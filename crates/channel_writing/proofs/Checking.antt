@@ -21,6 +21,7 @@ use Rattle.channel_writing.specs.Laws.{CheckpointIsMirrored, StartsLeaveTheSame}
 use Rattle.channel_writing.specs.Mirrors.{IsStartOf, Mirrors, busy, one_if_done}
 use Rattle.channel_writing.proofs.Ending.{staged_base}
 
+-- logs of one state after two starts leave the same
 pub same_left : StartsLeaveTheSame
 same_left a b s p q records more m n = (sym m.base ∙ n.base, sym (staged_base a s p records m) ∙ staged_base b s q more n)
 
@@ -60,6 +61,7 @@ busy_some : (os : List (ℕ × Entry)) → AllByRecursion (λ o. IsNotEmpty o.1)
 busy_some [] = tt
 busy_some (o ∷ os) = some_or o.1 o.0 (busy_ones os) (busy_some os)
 
+-- as many open transactions are kept for a checkpoint as did something
 pub busy_length : (os : List (ℕ × Entry)) → length (busy_ones os) ≡ busy os
 busy_length [] = refl
 busy_length (o ∷ os) = from (done_of (Some o.1)) (busy_length os)
@@ -155,5 +157,6 @@ start_mirrored base s settled m sound none now of =
       },
     )
 
+-- a start that has what the state has mirrors it, and there is such a start
 pub checkpoint_mirrored : CheckpointIsMirrored
 checkpoint_mirrored base s settled m sound none = (start_of_is base s settled m, start_mirrored base s settled m sound none)

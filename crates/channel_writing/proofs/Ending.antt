@@ -25,6 +25,7 @@ use Rattle.channel_replay.proofs.Among.{one_removed, apart_once}
 use Rattle.channel_writing.proofs.Opens.{one_done, busy_without, busy_push, all_without, all_push, all_higher, apart_without, apart_push, length_without, done_push}
 use Rattle.channel_writing.proofs.Mirroring.{applied-push, legal-push, is_txn}
 
+-- a transaction that begins writes no record
 pub begin_mirrored : BeginIsMirrored
 begin_mirrored start s settled records entry m idle room below =
     let more : List (ℕ × Entry) = s.opened ++ (s.txn, entry) ∷ [] in
@@ -77,6 +78,7 @@ ends_well start s settled records txn entry rec m is busy_one e =
       next = subst (λ (p : Past). next_txn p ≤ s.txn) (sym push) (omega (arith, e.of, number.1, m.next));
     }
 
+-- one that did something is given up with a ROLLBACK behind the other records
 pub rollback_mirrored : RollbackIsMirrored
 rollback_mirrored start s settled records txn entry m is busy_one =
     let all : Past = applied settled records in
@@ -99,6 +101,7 @@ rollback_mirrored start s settled records txn entry m is busy_one =
       few = omega (arith, m.few, length_without s.opened txn);
     }
 
+-- one that did nothing ends without a record
 pub end_mirrored : EndIsMirrored
 end_mirrored start s settled records txn entry m is idle =
     let once : EachOnce _ = λ n. apart_once _ n m.apart in
@@ -146,6 +149,7 @@ same_number start s settled records m =
     ap (λ (l : List Entry). length (put_events l)) m.staged ∙ (ap (λ (l : List Content). length l) (put_events-append (journal settled) s.staged) ∙ length-append (put_events (journal settled)) (put_events s.staged)) in
     omega (arith, first, puts)
 
+-- puts that are staged write a COMMIT_PUT behind the other records
 pub stage_put_mirrored : StagePutIsMirrored
 stage_put_mirrored start s settled records txn events m is some fits =
     let all : Past = applied settled records in
@@ -173,6 +177,7 @@ stage_put_mirrored start s settled records txn events m is some fits =
       few = omega (arith, m.few, length_without s.opened txn);
     })
 
+-- takes that are staged write a COMMIT_TAKE behind the other records
 pub stage_take_mirrored : StageTakeIsMirrored
 stage_take_mirrored start s settled records txn numbers m is some =
     let all : Past = applied settled records in
@@ -219,6 +224,7 @@ staged_base start s settled records m =
 both_none : (b c : Bool) → b ≡ false → c ≡ false → (b || c) ≡ false
 both_none b c x y = rw (x, y) refl
 
+-- a flush settles what is staged, and no records are pending after it
 pub flush_mirrored : FlushIsMirrored
 flush_mirrored start s settled records m staged_earlier =
     let all : Past = applied settled records in

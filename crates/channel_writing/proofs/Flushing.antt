@@ -33,6 +33,7 @@ ready_frames (Some t) w s waits =
 
 -- images of a folder where one file changes
 
+-- a crash leaves a settled file as it is read
 pub as_read : (file image : Option (List ℕ)) → Allows (settle_entry file) image → image ≡ file
 as_read None None may = refl
 as_read None (Some bytes) may = absurd may
@@ -82,6 +83,7 @@ either_of : (file : Option (List ℕ)) (P Q : List ℕ → Type 0) → IsSomeAnd
 either_of None P Q is = is
 either_of (Some bytes) P Q is = inl is
 
+-- while records wait, a crash leaves what is settled, with or without what is staged
 pub rest_recovers : (t : Told) (w : Writer) (s : State) (records : List Rec) (image : Files) → OnDisk t w s records → IsImage t.now image → MayRecover s image
 rest_recovers t w s records image disk are =
     may_open t w s records image disk (λ n differs. are n)
@@ -143,6 +145,7 @@ disk_after (Some t) (Some v) w w' s waits given flushed file earlier u is =
     some_told : (a b : Told) → Some a ≡ Some b → a ≡ b
     some_told a b is = cc
 
+-- after a flush, or where nothing waited for one, the log has the settled state
 pub logged_after : (told told' : Option Told) (w w' : Writer) (b : ℕ) (s : State) (log : IsLogged told w b s) (whole : s.broken ≡ false) → TakesAreEarlier s
     → ((birth : ℕ) (frames : List (List Rec)) → IsReady told birth w.file w.gate frames → 1 ≤ length (log.waits whole).records → Tells told told' (Changes (Log w.file) (LacksOrHas birth w.file frames (log.waits whole).records) 2))
     → ((birth : ℕ) (frames : List (List Rec)) → IsReady told birth w.file w.gate frames → 1 ≤ length (log.waits whole).records → IsReady told' birth w.file w'.gate (frames ++ (log.waits whole).records ∷ []))
@@ -215,6 +218,7 @@ writes_of told told' w s waits given none = from (some_or_none (length waits.rec
         (λ t u old new changes. record { others = λ name other. (changes.others name other).1; left = λ name other. (changes.others name other).0; syncs = changes.syncs })
         (given ready.0 ready.1 ready.2 some)
 
+-- a success that is also a failure cannot be, so anything follows from it
 pub no_ok : {A : Type 0} → false ≡ true → A
 no_ok is = absurd (cc)
 

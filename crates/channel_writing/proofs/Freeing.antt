@@ -32,6 +32,7 @@ or_turned true false = refl
 or_turned false true = refl
 or_turned false false = refl
 
+-- the first free event is still the first once what is staged is settled
 pub free_after : (s : State) (item : ℕ × Content) (rest : Items) → free s ≡ item ∷ rest → (more : Items) × (free (settle s) ≡ item ∷ more)
 free_after s item rest first =
     let tO : List ℕ = taken_numbers (entries s.opened) in
@@ -42,9 +43,11 @@ free_after s item rest first =
     let front : without tO (without tS s.items) ≡ item ∷ rest = sym (without-both tS tO s.items) ∙ (without_same (tS ++ tO) (tO ++ tS) s.items turned ∙ first) in
     (rest ++ behind, ap (λ (l : List ℕ). without l (without tS (s.items ++ more))) (append-nil tO) ∙ (ap (λ (l : Items). without tO l) (without-append tS s.items more) ∙ (without-append tO (without tS s.items) (without tS more) ∙ ap (λ (l : Items). l ++ behind) front)))
 
+-- a channel that does not refuse a take is not broken
 pub take_still : (s : State) (numbers : List ℕ) → take_refusal s (Some numbers) ≡ None → s.broken ≡ false
 take_still s numbers allowed = (take_allows s numbers allowed).0
 
+-- an empty frame has room for a take
 pub take_room : (w : Writer) (b : ℕ) (first : Bool) → w.bytes ≡ [] → b ≤ 1024 → HasRoom w (17 + kept b first)
 take_room w b first empty most = rw empty (from first)
   where
@@ -56,6 +59,7 @@ take_room w b first empty most = rw empty (from first)
 abbrev pub take_in : State → Bool → ℕ → List ℕ → ℕ → State
 take_in s spilled number numbers taken = record (settle_if spilled s) { opened = with_entry number (Takes (numbers ++ taken ∷ [])) (settle_if spilled s).opened }
 
+-- a take that gave the first free event is a call of the channel
 pub take_moves : (s s' : State) (token : Token) (numbers : List ℕ) (item : ℕ × Content) (rest : Items) (spilled : Bool) → takes_of s token ≡ Some numbers → take_refusal s (Some numbers) ≡ None → s.rules.kind ≡ OnFile → free s ≡ item ∷ rest → s' ≡ take_in s spilled token.number numbers item.0
     → Moves true s (Take token (Ok (record { event = Some item.1; spilled = spilled }))) s'
 take_moves s s' token numbers item rest spilled list allowed kind first is = record {
@@ -63,6 +67,7 @@ take_moves s s' token numbers item rest spilled list allowed kind first is = rec
   state = is ∙ (ap (λ (l : Items). add_take (settle_if spilled s) token.number (Some numbers) l) (sym first) ∙ ap (λ (l : Option (List ℕ)). add_take (settle_if spilled s) token.number l (free s)) (sym list));
 }
 
+-- a take that its log has leaves the channel whole
 pub take_whole : (told : Option Told) (w : Writer) (b : ℕ) (s s' : State) (token : Token) (number : ℕ) (numbers : List ℕ) (item : ℕ × Content) (rest : Items) (spilled : Bool) → IsSoundState s → takes_of s token ≡ Some numbers → take_refusal s (Some numbers) ≡ None → s.rules.kind ≡ OnFile → free s ≡ item ∷ rest
     → number ≡ token.number → s' ≡ take_in s spilled number numbers item.0 → IsLogged told w b (take_in s spilled number numbers item.0) → IsWhole told w b s'
 take_whole told w b s s' token number numbers item rest spilled sound list allowed kind first same is log =

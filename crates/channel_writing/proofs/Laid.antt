@@ -106,6 +106,7 @@ module _ (folder : Files) (start : Start) (birth number : ℕ) (frames : List (L
           some_opened [] more some = absurd (omega (arith, some))
           some_opened (f ∷ fs) more some = omega arith
 
+-- a folder goes on from the place of its newest checkpoint by the frames behind it
 pub laid_goes_on : LaidGoesOn
 laid_goes_on folder start birth number [] more laid is_birth has = from (folder (Log number)) refl has
   where
@@ -163,6 +164,7 @@ entered_mirrors base s past birth [] none m = from (eqb_tells birth 1)
 entered_fresh : (birth : ℕ) (frames : List (List Rec)) (past : Past) → birth ≡ 1 → frames ≡ [] → open_txns (entered_at birth frames past) ≡ []
 entered_fresh birth frames past first none = subst (λ (fs : List (List Rec)). open_txns (entered_at birth fs past) ≡ []) (sym none) (subst (λ (b : ℕ). open_txns (entered b past) ≡ []) (sym first) refl)
 
+-- from a checkpoint of the channel's state on, the log is the channel's
 pub laid_is_logged : LaidIsLogged
 laid_is_logged earlier folder start birth number s frames log is_birth sound none low of laid =
     let both = (checkpoint_mirrored log.start.base s log.past log.mirrors sound none).1 start of in

@@ -19,10 +19,12 @@ use Rattle.channel_writing.specs.Laws.{PutIsMirrored}
 use Rattle.channel_replay.proofs.Among.{among_open, added_length, added_same}
 use Rattle.channel_writing.proofs.Opens.{entry_with, keys_with, all_with, length_with, busy_with, busy_room, at_number, one_done}
 
+-- the marks after one record more
 pub applied-push : (past : Past) (records : List Rec) (rec : Rec) → applied past (records ++ rec ∷ []) ≡ Applied rec ∷ applied past records
 applied-push past [] rec = refl
 applied-push past (x ∷ records) rec = applied-push (Applied x ∷ past) records rec
 
+-- records stay legal with a legal one more behind them
 pub legal-push : (start : Base) (past : Past) (records : List Rec) (rec : Rec) → AreLegal start past records → IsLegal start (applied past records) rec → AreLegal start past (records ++ rec ∷ [])
 legal-push start past [] rec legal may = (may, tt)
 legal-push start past (x ∷ records) rec legal may = (legal.0, legal-push start (Applied x ∷ past) records rec legal.1 may)
@@ -57,6 +59,7 @@ may_put : (count : ℕ) (events : List Content) → (one_done (Puts events) ≡ 
 may_put count [] room = room refl
 may_put count (e ∷ events) room = tt
 
+-- a put writes a PUT behind the other records
 pub put_mirrored : PutIsMirrored
 put_mirrored start s settled records txn events event m is =
     let all : Past = applied settled records in

@@ -56,6 +56,7 @@ pub record LogsOn (was told : Option Told) (before now : ℕ) (last : Option ℕ
   pub well : now ≡ before
   pub there : WhereTold was (λ t. IsLogThere t.reads last)
 
+-- a log file above the last one found has at least the next number
 pub above_floor : (last : Option ℕ) (n : ℕ) → IsAbove (log_name last) (Log n) → floor_of last ≤ n
 above_floor None n above = omega arith
 above_floor (Some m) n above = grind (arith, nat_tests)
@@ -93,6 +94,7 @@ as_before_begins : (files folder : Files) (start : Start) (found : List Line) �
 as_before_begins files folder start found (inl same) begins = same_begins files folder start found same begins
 as_before_begins files folder start found (inr gains) begins = blank_begins files folder start found gains begins
 
+-- a folder that opens within a capacity opens to what it has
 pub opens_to : (files : Files) (capacity : ℕ) (base : Base) (txn : ℕ) → Opens files capacity base txn → OpensTo files base txn
 opens_to files capacity base txn opens = (opens.recovers, opens.fits)
 
@@ -102,6 +104,7 @@ as_before_opens files folder left txn as_before (r, fits) = (record { start = r.
 
 -- images and files during an opening
 
+-- what a crash leaves during one run and during the next, it leaves during both
 pub joined : (t u v : Told) (P : Files → Type 0) → LeavesOnly t u P → LeavesOnly u v P → LeavesOnly t v P
 joined t u v P a b = record {
   more = a.more ++ b.more;
@@ -113,6 +116,7 @@ joined t u v P a b = record {
     by_place m image low left (inl before) = a.each m image low (earlier u v P b m image before left)
     by_place m image low left (inr since) = b.each m image since left
 
+-- what a crash leaves has also what follows from it
 pub only_more : (t u : Told) (P Q : Files → Type 0) → ((image : Files) → P image → Q image) → LeavesOnly t u P → LeavesOnly t u Q
 only_more t u P Q maps is = record { more = is.more; past = is.past; each = λ m image low left. maps image (is.each m image low left) }
 
@@ -218,12 +222,15 @@ ReadsAreLeft told = WhereTold told (λ t. IsImage t.now t.reads)
 abbrev pub BeginsFile : ℕ → Told → Told → Type 0
 BeginsFile number t u = Changes (Log number) IsBlank 1 t u
 
+-- a settle that succeeded, with nothing called after it, is all that was done
 pub has_settled : (told told' later : Option Told) → Tells told told' (Leads {T = Unit {0}} Settle (Ok tt)) → later ≡ told' → Tells told later SettledAs
 has_settled told told' later does same = subst (λ (v : Option Told). Tells told v SettledAs) (sym same) (tells_more told told' (Leads {T = Unit {0}} Settle (Ok tt)) SettledAs (λ t u old new leads. leads.ok) does)
 
+-- a crash during an opening that only settled the disk leaves what it could before, or what was read
 pub refused_over : (told told' : Option Told) → ReadsAreLeft told → Tells told told' SettledAs → Tells told told' OpensOver
 refused_over told told' reads is = tells_more told told' SettledAs OpensOver (λ t u old new same. subst (λ (v : Told). OpensOver t v) (sym same) (settle_over t (reads t old))) is
 
+-- since an opening settled the disk and did no more, a crash leaves what was read
 pub refused_from : (told told' : Option Told) → Tells told told' SettledAs → Tells told told' OpensFrom
 refused_from told told' is = tells_more told told' SettledAs OpensFrom (λ t u old new same. subst (λ (v : Told). OpensFrom t v) (sym same) (settled_from t)) is
 
@@ -233,6 +240,7 @@ as_settled told told' P is read t old =
     let f = forth told told' SettledAs is t old in
     subst (λ (v : Told). P v.reads) f.2 (read f.0 f.1)
 
+-- the number after the last log file, once the disk was settled, is of no file, nor can a crash leave one
 pub is_unused : (told told' : Option Told) (number : ℕ) → Tells told told' SettledAs → WhereTold told' (λ t. IsNextFile t.reads number) → IsUnused told' number
 is_unused told told' number is next u new =
     let b = back told told' SettledAs is u new in
@@ -245,16 +253,19 @@ next_at told told' number is next = as_settled told told' (λ files. IsNextFile 
 changes_of : (t u v : Told) (number : ℕ) → u ≡ done Settle t → BeginsFile number u v → BeginsFile number (done Settle t) v
 changes_of t u v number same changes = subst (λ (x : Told). BeginsFile number x v) same changes
 
+-- a crash while an opening begins its log file leaves what it could before, or what was read with that file
 pub begun_over : (told told' later : Option Told) (number : ℕ) → ReadsAreLeft told → Tells told told' SettledAs → WhereTold told' (λ t. IsNextFile t.reads number) → Tells told' later (BeginsFile number) → Tells told later OpensOver
 begun_over told told' later number reads is next begins =
     follows told told' later SettledAs (BeginsFile number) OpensOver
     (λ t u v old mid new same changes. begins_over t v number (reads t old) (next_at told told' number is next t old) (changes_of t u v number same changes)) is begins
 
+-- since an opening settled the disk, a crash while it begins its log file leaves what was read, or that with the file
 pub begun_from : (told told' later : Option Told) (number : ℕ) → Tells told told' SettledAs → WhereTold told' (λ t. IsNextFile t.reads number) → Tells told' later (BeginsFile number) → Tells told later OpensFrom
 begun_from told told' later number is next begins =
     follows told told' later SettledAs (BeginsFile number) OpensFrom
     (λ t u v old mid new same changes. begins_from t v number (next_at told told' number is next t old) (changes_of t u v number same changes)) is begins
 
+-- an opening that begins its log file leaves all the other files as they were
 pub begun_stays : (told told' later : Option Told) (number : ℕ) → ReadsAreLeft later → Tells told told' SettledAs → WhereTold told' (λ t. IsNextFile t.reads number) → Tells told' later (BeginsFile number) → Tells told later (λ t u. IsAsBefore t.reads u.reads)
 begun_stays told told' later number reads is next begins =
     follows told told' later SettledAs (BeginsFile number) (λ t u. IsAsBefore t.reads u.reads)
@@ -267,6 +278,7 @@ begun_disk told told' later w s base txn number fresh recovers most some is next
     let a = back told told' SettledAs is b.0 b.1 in
     begun_on_disk a.0 v w s base txn number fresh (recovers a.0 a.1) most some (next_at told told' number is next a.0 a.1) (changes_of a.0 b.0 v number a.2 b.2) (ready v new) file gate
 
+-- the log file that an opening began, without a frame yet, has the state that was opened
 pub begun_logged : (told told' later : Option Told) (w : Writer) (s : State) (base : Base) (txn number most_bytes : ℕ) → IsFresh s base txn → s.rules.limits.max_file ≡ most_bytes → WhereTold told (λ t. OpensTo t.reads base txn) → txn ≤ 2 ^ 64 - 1 → 1 ≤ txn → Tells told told' SettledAs
     → WhereTold told' (λ t. IsNextFile t.reads number) → Tells told' later (BeginsFile number) → IsReady later 1 number 16 [] → w ≡ record { file = number; gate = 16; max_file = most_bytes; started = false; bytes = []; count = 0; kept = nothing_kept } → IsLogged later w 0 s
 begun_logged told told' later w s base txn number most_bytes fresh limit recovers most some is next begins ready writer =
@@ -285,6 +297,7 @@ begun_logged told told' later w s base txn number most_bytes fresh limit recover
 
 -- of an opening that was refused
 
+-- why the folder could not be read is why it is not opened
 pub of_refused : (files : Files) (capacity : ℕ) (e : OpeningRefused) → WhereBadCheck e (λ file at. IsNewest files (Some file) × IsFault files file at) → WhereBadLog e (λ file at. IsBadLogFrom files file at) → WhereOver e (λ count. (capacity < count) × Leaves files count)
     → Refuses files capacity (as_cause e)
 of_refused files capacity openings.DiskFault check log over = tt
@@ -295,6 +308,7 @@ of_refused files capacity (openings.OverCapacity count) check log over =
     (left.0, left.1, left.2, (left.3, subst (λ (n : ℕ). capacity < n) left.3 over.0))
 of_refused files capacity openings.NoMemory check log over = tt
 
+-- what follows from a fault of a checkpoint
 pub check_maps : (e : OpeningRefused) (P Q : ℕ → ℕ → Type 0) → ((file at : ℕ) → P file at → Q file at) → WhereBadCheck e P → WhereBadCheck e Q
 check_maps openings.DiskFault P Q maps is = tt
 check_maps (openings.BadCheck file at) P Q maps is = maps file at is
@@ -302,6 +316,7 @@ check_maps (openings.BadLog file at) P Q maps is = tt
 check_maps (openings.OverCapacity count) P Q maps is = tt
 check_maps openings.NoMemory P Q maps is = tt
 
+-- what follows from a fault of the log
 pub log_maps : (e : OpeningRefused) (P Q : ℕ → ℕ → Type 0) → ((file at : ℕ) → P file at → Q file at) → WhereBadLog e P → WhereBadLog e Q
 log_maps openings.DiskFault P Q maps is = tt
 log_maps (openings.BadCheck file at) P Q maps is = tt
@@ -309,6 +324,7 @@ log_maps (openings.BadLog file at) P Q maps is = maps file at is
 log_maps (openings.OverCapacity count) P Q maps is = tt
 log_maps openings.NoMemory P Q maps is = tt
 
+-- what follows from too many events
 pub over_maps : (e : OpeningRefused) (P Q : ℕ → Type 0) → ((count : ℕ) → P count → Q count) → WhereOver e P → WhereOver e Q
 over_maps openings.DiskFault P Q maps is = tt
 over_maps (openings.BadCheck file at) P Q maps is = tt

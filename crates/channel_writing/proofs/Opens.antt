@@ -32,6 +32,7 @@ with_is_put (o ∷ opened) t old new is = by_test (o.0 == t) is (with_is_put ope
 pub entry_with : (opened : Opened) (t n : ℕ) (old new : Entry) → entry_of t opened ≡ Some old → entry_of n (with_entry t new opened) ≡ cond (t == n) (Some new) (entry_of n opened)
 entry_with opened t n old new is = ap (λ (l : Opened). entry_of n l) (with_is_put opened t old new is) ∙ entry_of-put opened t n new
 
+-- a transaction that changes keeps its number and its place
 pub keys_with : (opened : Opened) (t : ℕ) (new : Entry) → keys (with_entry t new opened) ≡ keys opened
 keys_with [] t new = refl
 keys_with (o ∷ opened) t new = by_test (o.0 == t) (keys_with opened t new)
@@ -49,6 +50,7 @@ all_with P (o ∷ opened) t new all = by_test (o.0 == t) (all_with P opened t ne
     by_test true rest = (all.0, all.1)
     by_test false rest = (all.0, rest)
 
+-- as many are open after one of them changed
 pub length_with : (opened : Opened) (t : ℕ) (new : Entry) → length (with_entry t new opened) ≡ length opened
 length_with [] t new = refl
 length_with (o ∷ opened) t new = by_test (o.0 == t) (length_with opened t new)
@@ -79,6 +81,7 @@ at_number P (o ∷ opened) t entry is all = from (eqb_tells o.0 t) (λ is'. at_n
         pick : (b : Bool) → b ≡ false → cond b (Some o.1) (entry_of t opened) ≡ entry_of t opened
         pick b not_here = rw not_here refl
 
+-- at most all open transactions did something
 pub busy_most : (opened : Opened) → busy opened ≤ length opened
 busy_most [] = omega arith
 busy_most (o ∷ opened) = omega (arith, busy_most opened, one_most (done_of (Some o.1)))
@@ -109,6 +112,7 @@ gone_with (o ∷ opened) t n none = by_test (o.0 == t) (none_or (o.0 == n) (is_a
     by_test true rest = none_later (o.0 == n) (is_among (keys opened) n) none
     by_test false rest = rest
 
+-- no number is used twice after one has ended
 pub apart_without : (opened : Opened) (t : ℕ) → AreApart (keys opened) → AreApart (keys (without_entry t opened))
 apart_without [] t apart = tt
 apart_without (o ∷ opened) t apart = by_test (o.0 == t) (apart_without opened t apart.1) (gone_with opened t o.0 apart.0)
@@ -117,6 +121,7 @@ apart_without (o ∷ opened) t apart = by_test (o.0 == t) (apart_without opened 
     by_test true rest gone = apart.1
     by_test false rest gone = (gone, rest)
 
+-- what holds of the numbers of all still holds after one has ended
 pub all_without : (P : ℕ → Type 0) (opened : Opened) (t : ℕ) → AllByRecursion (λ (o : ℕ × Entry). P o.0) opened → AllByRecursion (λ (o : ℕ × Entry). P o.0) (without_entry t opened)
 all_without P [] t all = tt
 all_without P (o ∷ opened) t all = by_test (o.0 == t) (all_without P opened t all.1)
@@ -125,6 +130,7 @@ all_without P (o ∷ opened) t all = by_test (o.0 == t) (all_without P opened t 
     by_test true rest = all.1
     by_test false rest = (all.0, rest)
 
+-- no more are open after one has ended
 pub length_without : (opened : Opened) (t : ℕ) → length (without_entry t opened) ≤ length opened
 length_without [] t = omega arith
 length_without (o ∷ opened) t = by_test (o.0 == t) (length_without opened t)
@@ -145,18 +151,22 @@ busy_without (o ∷ opened) t old is = by_test (o.0 == t) is (busy_without opene
 
 -- a new one at the end
 
+-- the numbers with a new one at the end
 pub keys_push : (opened : Opened) (o : ℕ × Entry) → keys (opened ++ o ∷ []) ≡ keys opened ++ o.0 ∷ []
 keys_push [] o = refl
 keys_push (x ∷ opened) o = ap (λ (l : List ℕ). x.0 ∷ l) (keys_push opened o)
 
+-- how many did something, with a new one
 pub busy_push : (opened : Opened) (o : ℕ × Entry) → busy (opened ++ o ∷ []) ≡ busy opened + one_done o.1
 busy_push [] o = omega arith
 busy_push (x ∷ opened) o = omega (arith, busy_push opened o)
 
+-- what holds of the numbers of all and of a new one holds of all with it
 pub all_push : (P : ℕ → Type 0) (opened : Opened) (o : ℕ × Entry) → AllByRecursion (λ (x : ℕ × Entry). P x.0) opened → P o.0 → AllByRecursion (λ (x : ℕ × Entry). P x.0) (opened ++ o ∷ [])
 all_push P [] o all last = (last, tt)
 all_push P (x ∷ opened) o all last = (all.0, all_push P opened o all.1 last)
 
+-- numbers below the next one are below the one after that
 pub all_higher : (txn : ℕ) (opened : Opened) → AllByRecursion (λ (x : ℕ × Entry). x.0 < txn) opened → AllByRecursion (λ (x : ℕ × Entry). x.0 < txn + 1) opened
 all_higher txn [] all = tt
 all_higher txn (x ∷ opened) all = (omega (arith, all.0), all_higher txn opened all.1)
@@ -199,5 +209,6 @@ apart_last (x ∷ txns) t apart none = (from (eqb_tells t x) none, apart_last tx
     from (inl same) none' = absurd (differ (sym (first_true (x == t) (is_among txns t) (ap (λ (m : ℕ). x == m) same.1 ∙ itself x)) ∙ none'))
     from (inr other) none' = or_among txns (t ∷ []) x ∙ rw (apart.0, other.0) refl
 
+-- a transaction with the next number has a number of its own
 pub apart_push : (txn : ℕ) (entry : Entry) (opened : Opened) → AreApart (keys opened) → AllByRecursion (λ (x : ℕ × Entry). x.0 < txn) opened → AreApart (keys (opened ++ (txn, entry) ∷ []))
 apart_push txn entry opened apart all = subst AreApart (sym (keys_push opened (txn, entry))) (apart_last (keys opened) txn apart (high_none txn opened all))

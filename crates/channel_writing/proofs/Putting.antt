@@ -21,6 +21,7 @@ use Rattle.channel_writing.specs.Whole.{IsWhole}
 use Rattle.channel_writing.proofs.Opens.{busy_most}
 use Rattle.channel_writing.proofs.Whole.{sound_then, still_not}
 
+-- at most 1024 transactions have records in the log
 pub busy_few : (told : Option Told) (w : Writer) (b : ℕ) (s : State) → IsLogged told w b s → b ≤ 1024
 busy_few told w b s log = omega (arith, log.busy_is, busy_most s.opened, log.few)
 
@@ -44,15 +45,18 @@ room_enough w b n first empty few most = rw empty (from first)
 abbrev pub put_in : State → Bool → ℕ → List Content → Content → State
 put_in s spilled number events event = record (settle_if spilled s) { opened = with_entry number (Puts (events ++ event ∷ [])) (settle_if spilled s).opened }
 
+-- a put that succeeded is a call of the channel
 pub put_moves : (s s' : State) (token : Token) (events : List Content) (event : Content) (spilled : Bool) → puts_of s token ≡ Some events → put_refusal s (Some events) event ≡ None → s.rules.kind ≡ OnFile → s' ≡ put_in s spilled token.number events event → Moves true s (Put token event (Ok (record { spilled = spilled }))) s'
 put_moves s s' token events event spilled list allowed kind is = record {
   admitted = (rw list allowed, subst (λ (k : Kind). MaySpill k spilled) (sym kind) tt);
   state = is ∙ ap (λ (l : Option (List Content)). add_put (settle_if spilled s) token.number l event) (sym list);
 }
 
+-- a put that failed for the disk is a call that breaks the channel
 pub put_fails : (s s' : State) (token : Token) (events : List Content) (event : Content) → puts_of s token ≡ Some events → put_refusal s (Some events) event ≡ None → s.rules.kind ≡ OnFile → s' ≡ broken_state s → Moves true s (Put token event (Err PutNo.DiskFault)) s'
 put_fails s s' token events event list allowed kind is = record { admitted = (rw list allowed, kind); state = is }
 
+-- a put that its log has leaves the channel whole
 pub put_whole : (told : Option Told) (w : Writer) (b : ℕ) (s s' : State) (token : Token) (number : ℕ) (events : List Content) (event : Content) (spilled : Bool) → IsSoundState s → puts_of s token ≡ Some events → put_refusal s (Some events) event ≡ None → s.rules.kind ≡ OnFile
     → number ≡ token.number → s' ≡ put_in s spilled number events event → IsLogged told w b (put_in s spilled number events event) → IsWhole told w b s'
 put_whole told w b s s' token number events event spilled sound list allowed kind same is log =

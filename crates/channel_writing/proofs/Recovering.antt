@@ -30,16 +30,19 @@ use Rattle.channel_writing.specs.Laws.{FramesRecover, FlushRecovers, FlushIsLogg
 use Rattle.channel_writing.specs.Written.{MayRecover, RecoversSettled}
 use Rattle.channel_writing.proofs.Ending.{flush_mirrored, staged_base}
 
+-- how long the header of a log file is
 pub length-header : (birth number : ℕ) → length (header birth number) ≡ 16
 unfolding header u16_bytes u32_bytes
 length-header birth number = refl
 
 -- records after records
 
+-- the marks after two runs of records
 pub applied-append : (past : Past) (a b : List Rec) → applied past (a ++ b) ≡ applied (applied past a) b
 applied-append past [] b = refl
 applied-append past (rec ∷ a) b = applied-append (Applied rec ∷ past) a b
 
+-- legal records after legal records are legal
 pub legal-append : (base : Base) (past : Past) (a b : List Rec) → AreLegal base past a → AreLegal base (applied past a) b → AreLegal base past (a ++ b)
 legal-append base past [] b first later = later
 legal-append base past (rec ∷ a) b first later = (first.0, legal-append base (Applied rec ∷ past) a b first.1 later)
@@ -57,6 +60,7 @@ firsts-records : (at : ℕ) (records : List Rec) → firsts (record_items at rec
 firsts-records at [] = refl
 firsts-records at (rec ∷ records) = ap (λ (l : List Rec). rec ∷ l) (firsts-records (at + record_length rec) records)
 
+-- the records of a file's frames, without their places
 pub firsts-frames : (gate : ℕ) (frames : List (List Rec)) → firsts (frame_items gate frames) ≡ flat frames
 firsts-frames gate [] = refl
 firsts-frames gate (frame ∷ frames) =
@@ -64,10 +68,12 @@ firsts-frames gate (frame ∷ frames) =
     ∙ (ap (λ (l : List Rec). l ++ firsts (frame_items (gate + 1 + length (frame_bytes frame)) frames)) (firsts-records (gate + 1) frame)
     ∙ ap (λ (l : List Rec). frame ++ l) (firsts-frames (gate + 1 + length (frame_bytes frame)) frames))
 
+-- the lines of records leave the marks of these records
 pub past_records : (file : ℕ) (past : Past) (items : List (Rec × ℕ)) → past_lines past (record_lines file items) ≡ applied past (firsts items)
 past_records file past [] = refl
 past_records file past (item ∷ items) = past_records file (Applied item.0 ∷ past) items
 
+-- the lines of legal records are sound
 pub sound_records : (base : Base) (file : ℕ) (past : Past) (items : List (Rec × ℕ)) → AreLegal base past (firsts items) → AreSound base past (record_lines file items)
 sound_records base file past [] legal = tt
 sound_records base file past (item ∷ items) legal = (legal.0, sound_records base file (Applied item.0 ∷ past) items legal.1)
@@ -111,6 +117,7 @@ whole_past birth past number frames =
     past_entered birth past (record_lines number items ++ [])
     ∙ (ap (λ (l : List Line). past_lines first l) (append-nil (record_lines number items)) ∙ (past_records number first items ∙ ap (λ (l : List Rec). applied first l) (firsts-frames 16 frames)))
 
+-- the lines of a whole file are sound where its records are legal
 pub whole_sound : (base : Base) (birth : ℕ) (past : Past) (number : ℕ) (frames : List (List Rec)) → AreLegal base (entered birth past) (flat frames) → AreSound base past (file_lines number (Whole birth frames))
 whole_sound base birth past number frames legal =
     let items : List (Rec × ℕ) = frame_items 16 frames in
@@ -163,6 +170,7 @@ module _ (files folder : Files) (start : Start) (found : List Line) (birth numbe
         marks = inr (refl, none, ap (λ (l : List Line). entered birth (past_lines (start_past start) l)) (sym same));
       }
 
+  -- a folder goes on into a new last log file by the frames which that has
   pub grown_goes : IsBirth birth → number < 2 ^ 32 → ((n : ℕ) → number ≤ n → files (Log n) ≡ None) → ((name : FileName) → same_name name (Log number) ≡ false → folder name ≡ files name)
       → BeginsAt files start found → AreSound start.base (start_past start) found → IsSomeAnd (folder (Log number)) (HasFrames birth number more) → GoesOn folder start (entered birth before) birth [] more
   grown_goes is_birth small none others begins sound has = from (folder (Log number)) refl has
@@ -188,6 +196,7 @@ marks_next : (birth : ℕ) (found past : Past) (frames more : List (List Rec)) �
 marks_next birth found past frames more (inl is) = ap next_txn is
 marks_next birth found past frames more (inr is) = sym (ap (λ (m : List (List Rec)). next_txn (applied past (flat m))) is.1 ∙ (ap next_txn is.2 ∙ entered_next birth found))
 
+-- a folder whose log goes on by legal records recovers to what they leave
 pub frames_recover : FramesRecover
 frames_recover folder start past birth frames more goes legal = record {
   start = start;
@@ -228,6 +237,7 @@ settled_recovers s folder birth number frames records log has =
     let it : RecoversTo folder (after_journal log.start.base (journal log.past)) txn = frames_recover folder log.start log.past birth frames [] goes tt in
     (txn, low, subst (λ (b : Base). OpensTo folder b txn) (sym log.mirrors.base) (it, left_fit s log.start log.past records it.found (after_journal log.start.base (journal log.past)) txn log.fits log.mirrors it.stands low))
 
+-- a crash while a frame is flushed leaves what is settled, or that with what is staged
 pub flush_recovers : FlushRecovers
 unfolding frames_recover
 flush_recovers s folder birth number frames records log has = from (or_some (folder (Log number)) (HasFrames birth number frames) (HasFrames birth number (frames ++ records ∷ [])) has)
@@ -245,6 +255,7 @@ flush_recovers s folder birth number frames records log has = from (or_some (fol
         let same : OpensTo folder (left records) (txn records) = subst (λ (l : List Rec). OpensTo folder (left l) (txn l)) all (it, fit) in
         (txn records, low, inr (subst (λ (b : Base). OpensTo folder b (txn records)) (sym (staged_base log.start.base s log.past records log.mirrors)) same))
 
+-- after a flush the log has one frame more
 pub flush_logged : FlushIsLogged
 flush_logged folder birth number s frames records log staged_earlier = record {
   start = log.start;

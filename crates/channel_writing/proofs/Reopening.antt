@@ -26,9 +26,11 @@ differ is = absurd (cc)
 
 -- opened
 
+-- a channel that was opened has nothing open or staged
 pub opened_fresh : (s : State) (o : Opening) → s ≡ opening o → IsFresh s o.base o.txn
 opened_fresh s o is = rw is (record { base_is = refl; txn_is = refl; opened = refl; staged = refl })
 
+-- a channel that was opened, and whose log has it, is whole
 pub opened_whole : (told : Option Told) (w : Writer) (b : ℕ) (s : State) (o : Opening) → s ≡ opening o → o.rules.kind ≡ OnFile → IsBase o.base → IsLogged told w b s → IsWhole told w b s
 opened_whole told w b s o is kind base log = record {
   logged = λ _. log;
@@ -39,6 +41,7 @@ opened_whole told w b s o is kind base log = record {
 
 -- what a crash may leave before
 
+-- a crash leaves of a whole channel what may be recovered to
 pub whole_may_rest : (told : Option Told) (w : Writer) (b : ℕ) (s : State) → IsWhole told w b s → MayRest told s
 whole_may_rest told w b s whole = by_broken s.broken refl
   where
@@ -48,6 +51,7 @@ whole_may_rest told w b s whole = by_broken s.broken refl
         let waits : Waits told w s = (whole.logged is).waits is in
         rest_recovers t w s waits.records image (waits.disk t told_is) are
 
+-- where nothing is called, a crash leaves what it could
 pub rests_still : (told : Option Told) (s : State) → MayRest told s → Tells told told (λ t u. LeavesOnly t u (MayRecover s))
 rests_still told s rests = tells_same told (λ t u. LeavesOnly t u (MayRecover s)) (λ t is. started t (MayRecover s) (rests t is))
 
@@ -55,6 +59,7 @@ may_recover_as : (s : State) (files image : Files) → IsAsBefore files image �
 may_recover_as s files image as_before (n, low, inl found) = (n, low, inl (as_before_opens files image (base_of s) n as_before found))
 may_recover_as s files image as_before (n, low, inr found) = (n, low, inr (as_before_opens files image (after_journal (base_of s) s.staged) n as_before found))
 
+-- while a channel is opened anew, a crash leaves what may be recovered to
 pub opens_leaves : (told told' : Option Told) (s : State) → MayRest told s → ReadsAreLeft told → Tells told told' OpensOver → Tells told told' (λ t u. LeavesOnly t u (MayRecover s))
 opens_leaves told told' s rests reads tells = tells_more told told' OpensOver (λ t u. LeavesOnly t u (MayRecover s)) over tells
   where
@@ -70,9 +75,11 @@ opens_leaves told told' s rests reads tells = tells_more told told' OpensOver (�
 abbrev pub renewal : Base → ℕ → Reopened
 renewal base txn = record { kept = Read base; txn = txn }
 
+-- a channel that was opened anew has nothing open or staged
 pub renewed_fresh : (s s' : State) (base : Base) (txn : ℕ) → s' ≡ after_reopen s (Ok (renewal base txn)) → IsFresh s' base txn
 renewed_fresh s s' base txn is = rw is (record { base_is = refl; txn_is = refl; opened = refl; staged = refl })
 
+-- a channel that was opened anew, and whose log has it, is whole
 pub renewed_whole : (told : Option Told) (w : Writer) (b : ℕ) (s s' : State) (base : Base) (txn : ℕ) → s' ≡ after_reopen s (Ok (renewal base txn)) → s.rules.kind ≡ OnFile → IsBase base → IsLogged told w b s' → IsWhole told w b s'
 renewed_whole told w b s s' base txn is kind rises log = record {
   logged = λ _. log;
@@ -91,9 +98,11 @@ refused_admits tells s (causes.OverCapacity count) life kind counter = (life, ki
 refused_admits tells s (causes.Spent c) life kind counter = (inr (counter, life), kind)
 refused_admits tells s causes.NoMemory life kind counter = (tt, kind)
 
+-- an opening anew that was refused breaks the channel
 pub refused_moves : (tells : Bool) (s s' : State) (e : OpenCause) → s.life < 2 ^ 64 - 1 → s.rules.kind ≡ OnFile → IsOfFile e → s' ≡ broken_state s → (kept : Reopened) × Moves tells s (Reopen (Err e)) s'
 refused_moves tells s s' e life kind counter is = (record { kept = Front 0; txn = 0 }, record { admitted = refused_admits tells s e life kind counter; state = is })
 
+-- an opening anew is refused where the channel's lives are spent
 pub spent_moves : (tells : Bool) (s s' : State) → s.life ≡ 2 ^ 64 - 1 → s.rules.kind ≡ OnFile → s' ≡ broken_state s → (kept : Reopened) × Moves tells s (Reopen (Err (causes.Spent Life))) s'
 spent_moves tells s s' life kind is = (record { kept = Front 0; txn = 0 }, record { admitted = (inl (refl, life), kind); state = is })
 

@@ -109,6 +109,7 @@ rolled_disk t u w s records disk framed low changes rest = record {
           mirrors = own.mirrors;
         }
 
+-- the log has the same state once the next file is begun
 pub rolled_logged : (told told' : Option Told) (w w' : Writer) (b : ℕ) (s : State) → IsLogged told w b s → 16 < w.gate → w.file < 4_294_967_295 → Tells told told' (Changes (Log (w.file + 1)) IsBlank 1)
     → IsReady told' 2 (w.file + 1) 16 [] → w' ≡ record w { file = w.file + 1; gate = 16; started = false } → IsLogged told' w' b s
 rolled_logged told told' w w' b s log framed low changes ready is = rw is (record {
@@ -149,6 +150,7 @@ rolls_image t w s records image disk low one =
     is_there None P is = absurd is
     is_there (Some bytes) P is = refl
 
+-- a crash while the next file is begun leaves what is settled
 pub roll_moments : (told told' : Option Told) (w : Writer) (s : State) → Waits told w s → w.file < 4_294_967_295 → Tells told told' (Changes (Log (w.file + 1)) IsBlank 1) → Tells told told' (λ t u. LeavesOnly t u (RecoversSettled s))
 roll_moments told told' w s waits low changes =
     tells_more told told' (Changes (Log (w.file + 1)) IsBlank 1) (λ t u. LeavesOnly t u (RecoversSettled s))

@@ -487,6 +487,7 @@ reopen_before : (told told' : Option Told) (s : State) → Reopens told told' s 
 reopen_before told told' s (inl same) u is = (u, sym same ∙ is, inl refl)
 reopen_before told told' s (inr (life, tells)) u is = let old = back told told' (λ t v. LeavesOnly t v (MayRecover s)) tells u is in (old.0, old.1, inr (life, old.2))
 
+-- an opening anew adds itself to the calls that the channel stands for
 pub reopens_over : (told told' : Option Told) (f f' : ℕ) (old : Seen) (reply : Result Reopened OpenCause) (new : Seen) → Moves (is_some_of told) old.state (Reopen reply) new.state → new.tally ≡ counted old.state (Reopen reply) old.tally → new.waiting ≡ waiting_after old.state (Reopen reply) old.waiting → f ≤ f' → (is_fault (Reopen reply) ≡ true → Rose f f') → (is_fault (Reopen reply) ≡ false → f' ≡ f)
     → Reopens told told' old.state → Rests told' new.state → AddsOne (StandsIn told f old) (StandsIn told' f' new) (Reopen reply) (moment_of told')
 reopens_over told told' f f' old reply new moves count waits up cause still reopens rests =
@@ -510,6 +511,7 @@ reopens_over told told' f f' old reply new moves count waits up cause still reop
 
 -- the same as a method has it: what was before is named by its value
 
+-- a call left the disk alone, or flushed a channel that was not broken
 pub touched_by : (told told' : Option Told) (s : State) (call : Call) → (flushes call ≡ false → told' ≡ told) → (flushes call ≡ true → Tells told told' (λ t u. Flushed s t u)) → Touched told told' s
 touched_by told told' s call quiet flushed = from (flushes call) refl
   where
@@ -519,6 +521,7 @@ touched_by told told' s call quiet flushed = from (flushes call) refl
 
 -- which of the replies are faults
 
+-- only a fault of the disk is a fault of a put
 pub put_fault : (token : Token) (event : Content) (reply : Result PutDone PutRefused) → is_fault (Put token event reply) ≡ true → reply ≡ Err PutNo.DiskFault
 put_fault token event (Ok done) is = absurd (cc)
 put_fault token event (Err PutNo.Stale) is = absurd (cc)
@@ -530,6 +533,7 @@ put_fault token event (Err (PutNo.Full count)) is = absurd (cc)
 put_fault token event (Err PutNo.DiskFault) is = refl
 put_fault token event (Err PutNo.NoMemory) is = absurd (cc)
 
+-- only a fault of the disk is a fault of a flush
 pub flush_fault : (reply : Result (Unit {0}) FlushRefused) → is_fault (Flush reply) ≡ true → reply ≡ Err FlushNo.DiskFault
 flush_fault (Ok done) is = absurd (cc)
 flush_fault (Err FlushNo.Broken) is = absurd (cc)
@@ -553,6 +557,7 @@ stands_first told faults c start base same state count none well images = record
   images = λ t is m image since left. let found = images t is m image since left in (start.base, found.0, found.1, (0, sym (after_none start.base)));
 }
 
+-- only a fault of the disk is a fault of an opening anew
 pub reopen_fault : (reply : Result (Unit {0}) OpenCause) (kept : Reopened) → is_fault (Reopen (reopen_reply reply kept)) ≡ true → reply ≡ Err OpenNo.DiskFault
 reopen_fault (Ok done) kept is = absurd (cc)
 reopen_fault (Err OpenNo.DiskFault) kept is = refl
@@ -584,6 +589,7 @@ reopens_of told told' s spent images = from (at_end s.life)
     from (inl life) = inr (life, images)
     from (inr end) = inl (spent end)
 
+-- an opening anew adds itself, where what was before is named by its value
 pub adds_reopen : (told told' told0 : Option Told) (f f' f0 : ℕ) (old new old0 : Seen) (reply : Result Reopened OpenCause) → told ≡ told0 → f ≡ f0 → old ≡ old0 → DidReopen told told' f f' old reply new
     → AddsOne (StandsIn told0 f0 old0) (StandsIn told' f' new) (Reopen reply) (moment_of told')
 adds_reopen told told' told0 f f' f0 old new old0 reply told_is f_is old_is did =

@@ -111,6 +111,7 @@ may_take : (count : ℕ) (ns : List ℕ) → (one_done (Takes ns) ≡ 0 → coun
 may_take count [] room = room refl
 may_take count (n ∷ ns) room = tt
 
+-- a take writes a TAKE behind the other records
 pub take_mirrored : TakeIsMirrored
 take_mirrored start s settled records txn ns item rest m is first =
     let all : Past = applied settled records in

@@ -72,9 +72,11 @@ rests_over told told' s tells u is image are =
     let b = back told told' (λ t v. LeavesOnly t v (MayRecover s)) tells u is in
     b.2.each (clock u) image (clock_rises b.0 u (MayRecover s) b.2) (subst (λ (f : Folder). IsImage f image) (sym (get_or_past u.past (clock u) u.now (omega arith))) are)
 
+-- a channel that was not broken, and did not break, is not broken
 pub still_not : (s s' : State) → s.broken ≡ false → s'.broken ≡ s.broken → s'.broken ≡ true → ⊥
 still_not s s' still same broken = differ (sym broken ∙ (same ∙ still))
 
+-- a call leaves a sound state sound
 pub sound_then : (s : State) (call : Call) (s' : State) → Moves true s call s' → IsSoundState s → IsSoundState s'
 sound_then s call s' moves sound = subst IsSoundState (sym moves.state) (sound_after true s call sound moves.admitted)
 
@@ -83,6 +85,7 @@ begun_logged told w b s entry log idle room below =
     log_same told w b s (record s { opened = s.opened ++ (s.txn, entry) ∷ []; txn = s.txn + 1 }) log (omega (arith, log.busy_is, busy_push s.opened (s.txn, entry), ap one_if_done idle)) (omega (arith, room, length-append s.opened ((s.txn, entry) ∷ []))) refl refl (omega arith)
     (λ start settled records m. begin_mirrored start s settled records entry m idle room below)
 
+-- a transaction that begins, or is refused, leaves the channel whole
 pub begun_whole : (told : Option Told) (w : Writer) (b : ℕ) (s s' : State) (entry : Entry) (reply : Result Token BeginRefused) → IsWhole told w b s → AdmitsBegin s reply → s' ≡ after_begin entry s reply → IsSoundState s' → done_of (Some entry) ≡ None → IsWhole told w b s'
 begun_whole told w b s s' entry (Ok token) whole may is sound idle =
     let few = few_opened s may.0 in
@@ -104,6 +107,7 @@ staged_below s sound n more = from (among_times n (taken_numbers s.staged))
         absurd (omega (arith, there.1, sound.held n, none))
     from (inr none) = none.0
 
+-- a channel that broke is whole where a crash leaves what may be recovered to
 pub failed_whole : (told : Option Told) (w : Writer) (b : ℕ) (s : State) → MayRest told s → IsSoundState s → s.rules.kind ≡ OnFile → IsWhole told w b (record s { broken = true })
 failed_whole told w b s rests sound kind = record { logged = λ still. differ still; left = λ _. rests; sound = sound_broken s sound; kind = kind }
 
@@ -125,6 +129,7 @@ rolled_put told w b s s' token None whole still is to none = subst (λ (v : Stat
 rolled_put told w b s s' token (Some []) whole still is to none = subst (λ (v : State). IsLogged told w b v) (sym to) (ended_logged told w b s token.number (Puts []) (whole.logged still) ((puts_of-some s token [] is).1) refl)
 rolled_put told w b s s' token (Some (x ∷ xs)) whole still is to none = absurd (omega (arith, none))
 
+-- giving up puts where there are none leaves the channel whole
 pub rollback_put_idle : (told : Option Told) (w : Writer) (b : ℕ) (s s' : State) (token : Token) (ended : Bool) → IsWhole told w b s → Moves true s (RollbackPut token ended) s' → size_of_list (puts_of s token) ≡ 0 → IsWhole told w b s'
 rollback_put_idle told w b s s' token ended whole moves none =
     let to : s' ≡ cond (is_some_of (puts_of s token)) (close token.number s) s = moves.state ∙ ap (λ (e : Bool). cond e (close token.number s) s) moves.admitted in
@@ -143,6 +148,7 @@ rollback_put_idle told w b s s' token ended whole moves none =
     same_kind true is = ap (λ (v : State). v.rules.kind) is
     same_kind false is = ap (λ (v : State). v.rules.kind) is
 
+-- giving up puts of a broken channel leaves it whole
 pub rollback_put_broken : (told : Option Told) (w : Writer) (b : ℕ) (s s' : State) (token : Token) (ended : Bool) → IsWhole told w b s → Moves true s (RollbackPut token ended) s' → s'.broken ≡ true → IsWhole told w b s'
 rollback_put_broken told w b s s' token ended whole moves broken = record {
   logged = λ still. differ (sym broken ∙ still);
@@ -170,13 +176,16 @@ did_put_list : (s : State) (token : Token) (list : Option (List Content)) → pu
 did_put_list s token None is some = absurd (omega (arith, some))
 did_put_list s token (Some events) is some = record { events = events; list = is; entry = (puts_of-some s token events is).1; some = some }
 
+-- a token with events put is of a transaction that did something
 pub did_put : (s : State) (token : Token) → 0 < size_of_list (puts_of s token) → DidPut s token
 did_put s token some = did_put_list s token (puts_of s token) refl some
 
+-- puts of some events count as something done
 pub put_was_done : (events : List Content) → 0 < length events → done_of (Some (Puts events)) ≡ Some (Puts events)
 put_was_done [] some = absurd (omega (arith, some))
 put_was_done (x ∷ xs) some = refl
 
+-- giving up puts with a record of it leaves the channel whole
 pub rollback_put_whole : (told : Option Told) (w : Writer) (b : ℕ) (s s' : State) (token : Token) (ended : Bool) → s.broken ≡ false → IsSoundState s → s.rules.kind ≡ OnFile → Moves true s (RollbackPut token ended) s' → DidPut s token → IsLogged told w b (close token.number s) → IsWhole told w b s'
 rollback_put_whole told w b s s' token ended whole sound kind moves did log =
     let is : ended ≡ true = moves.admitted ∙ ap is_some_of did.list in
@@ -193,6 +202,7 @@ rolled_take told w b s s' token None whole still is to none = subst (λ (v : Sta
 rolled_take told w b s s' token (Some []) whole still is to none = subst (λ (v : State). IsLogged told w b v) (sym to) (ended_logged told w b s token.number (Takes []) (whole.logged still) ((takes_of-some s token [] is).1) refl)
 rolled_take told w b s s' token (Some (x ∷ xs)) whole still is to none = absurd (omega (arith, none))
 
+-- giving up takes where there are none leaves the channel whole
 pub rollback_take_idle : (told : Option Told) (w : Writer) (b : ℕ) (s s' : State) (token : Token) (ended : Bool) → IsWhole told w b s → Moves true s (RollbackTake token ended) s' → size_of_list (takes_of s token) ≡ 0 → IsWhole told w b s'
 rollback_take_idle told w b s s' token ended whole moves none =
     let to : s' ≡ cond (is_some_of (takes_of s token)) (close token.number s) s = moves.state ∙ ap (λ (e : Bool). cond e (close token.number s) s) moves.admitted in
@@ -211,6 +221,7 @@ rollback_take_idle told w b s s' token ended whole moves none =
     same_kind true is = ap (λ (v : State). v.rules.kind) is
     same_kind false is = ap (λ (v : State). v.rules.kind) is
 
+-- giving up takes of a broken channel leaves it whole
 pub rollback_take_broken : (told : Option Told) (w : Writer) (b : ℕ) (s s' : State) (token : Token) (ended : Bool) → IsWhole told w b s → Moves true s (RollbackTake token ended) s' → s'.broken ≡ true → IsWhole told w b s'
 rollback_take_broken told w b s s' token ended whole moves broken = record {
   logged = λ still. differ (sym broken ∙ still);
@@ -238,13 +249,16 @@ did_take_list : (s : State) (token : Token) (list : Option (List ℕ)) → takes
 did_take_list s token None is some = absurd (omega (arith, some))
 did_take_list s token (Some numbers) is some = record { numbers = numbers; list = is; entry = (takes_of-some s token numbers is).1; some = some }
 
+-- a token with events taken is of a transaction that did something
 pub did_take : (s : State) (token : Token) → 0 < size_of_list (takes_of s token) → DidTake s token
 did_take s token some = did_take_list s token (takes_of s token) refl some
 
+-- takes of some events count as something done
 pub take_was_done : (numbers : List ℕ) → 0 < length numbers → done_of (Some (Takes numbers)) ≡ Some (Takes numbers)
 take_was_done [] some = absurd (omega (arith, some))
 take_was_done (x ∷ xs) some = refl
 
+-- giving up takes with a record of it leaves the channel whole
 pub rollback_take_whole : (told : Option Told) (w : Writer) (b : ℕ) (s s' : State) (token : Token) (ended : Bool) → s.broken ≡ false → IsSoundState s → s.rules.kind ≡ OnFile → Moves true s (RollbackTake token ended) s' → DidTake s token → IsLogged told w b (close token.number s) → IsWhole told w b s'
 rollback_take_whole told w b s s' token ended whole sound kind moves did log =
     let is : ended ≡ true = moves.admitted ∙ ap is_some_of did.list in
@@ -282,6 +296,7 @@ staged_puts_list s token given (Some events) is none given_is =
       fits = fits_number (2 ^ 64 - 1) (next_number s + length events) (or_none (room_refusal s.rules.kind s (length events)) (cond (nat_lt (2 ^ 64 - 1) (next_number s + length events)) (Some (StageNo.Spent Number)) None) two.1);
     }
 
+-- what a commit of puts that succeeded found
 pub staged_puts : (s s' : State) (token : Token) (given : Ticket) → Moves true s (StagePut token (Ok given)) s' → StagedPuts s token given
 staged_puts s s' token given moves = staged_puts_list s token given (puts_of s token) refl moves.admitted.0 moves.admitted.1
 
@@ -301,6 +316,7 @@ staged_takes_list s token given (Some numbers) is none given_is =
       count = ap (λ (t : Ticket). t.count) given_is;
     }
 
+-- what a commit of takes that succeeded found
 pub staged_takes : (s s' : State) (token : Token) (given : Ticket) → Moves true s (StageTake token (Ok given)) s' → StagedTakes s token given
 staged_takes s s' token given moves = staged_takes_list s token given (takes_of s token) refl moves.admitted.0 moves.admitted.1
 
@@ -334,6 +350,7 @@ pub stage_puts_idle : (told : Option Told) (w : Writer) (b : ℕ) (s : State) (n
 stage_puts_idle told w b s number [] log is none = ended_logged told w b s number (Puts []) log is refl
 stage_puts_idle told w b s number (e ∷ events) log is none = absurd (omega (arith, none))
 
+-- a commit of no takes needs no record
 pub stage_takes_idle : (told : Option Told) (w : Writer) (b : ℕ) (s : State) (number : ℕ) (numbers : List ℕ) → IsLogged told w b s → entry_of number s.opened ≡ Some (Takes numbers) → length numbers ≡ 0 → IsLogged told w b (stage number (Some (Takes numbers)) s)
 stage_takes_idle told w b s number [] log is none = ended_logged told w b s number (Takes []) log is refl
 stage_takes_idle told w b s number (n ∷ numbers) log is none = absurd (omega (arith, none))
@@ -436,6 +453,7 @@ gained t u w w' b b' s size still log log' writer full room = from (writer (some
         let before : length_before (t.reads (Log w'.file)) ≡ 17 = ap length_before (disk.none w'.file (omega (arith, file))) in
         record { file = w'.file; now = bytes'; after = disk'.rest.reads; full = omega (arith, much, length_now, gate, before) }
 
+-- a put or take that spilled shows that the frame had no room left
 pub had_no_room : (told told' : Option Told) (w w' : Writer) (b b' : ℕ) (s : State) (size : ℕ) (P : Told → Told → Type 0) → Tells told told' P → s.broken ≡ false → IsLogged told w b s → IsLogged told' w' b' (settle s)
     → (1 ≤ w.count → WritesOn w w') → (HasRoom w size → ⊥) → (w.bytes ≡ [] → HasRoom w size) → Tells told told' (HadNoRoom size)
 had_no_room None None w w' b b' s size P tells still log log' writer full room = tt

@@ -111,6 +111,7 @@ last_taken (x ∷ numbers) n = refl
 room_after : (w w' : Writer) (rec : Rec) (b b' : ℕ) (first : Bool) → Appends w w' rec → b' ≡ b + cond first 1 0 → HasRoom w (record_length rec + kept b first) → length w'.bytes + 21 * b' + 6 ≤ 2097152
 room_after w w' rec b b' first adds more room = rw more (omega (arith, longer_by w w' rec adds, length-spelling rec, room))
 
+-- the log has the state with one event more put
 pub put_logged : (told : Option Told) (w w' : Writer) (b b' : ℕ) (s : State) (txn : ℕ) (events : List Content) (event : Content) (first : Bool) → IsLogged told w b s → entry_of txn s.opened ≡ Some (Puts events) → first ≡ (length events == 0)
     → Appends w w' (Put txn event) → b' ≡ b + cond first 1 0 → HasRoom w (record_length (Put txn event) + kept b first) → IsLogged told w' b' (record s { opened = with_entry txn (Puts (events ++ event ∷ [])) s.opened })
 put_logged told w w' b b' s txn events event first log is is_first adds more room =
@@ -123,6 +124,7 @@ put_logged told w w' b b' s txn events event first log is is_first adds more roo
       waits = λ whole. waits_more told w w' s (record s { opened = with_entry txn new s.opened }) (Put txn event) (log.waits whole) adds (omega arith) (λ start settled records m. put_mirrored start s settled records txn events event m is);
     }
 
+-- the log has the state with one event more taken
 pub take_logged : (told : Option Told) (w w' : Writer) (b b' : ℕ) (s : State) (txn : ℕ) (numbers : List ℕ) (item : ℕ × Content) (rest : List (ℕ × Content)) (first : Bool) → IsLogged told w b s → entry_of txn s.opened ≡ Some (Takes numbers) → free s ≡ item ∷ rest → first ≡ (length numbers == 0)
     → Appends w w' (Take txn item.0) → b' ≡ b + cond first 1 0 → HasRoom w (record_length (Take txn item.0) + kept b first) → IsLogged told w' b' (record s { opened = with_entry txn (Takes (numbers ++ item.0 ∷ [])) s.opened })
 take_logged told w w' b b' s txn numbers item rest first log is free_is is_first adds more room =
@@ -148,6 +150,7 @@ commit_take_length txn count = length-spelling (CommitTake txn count)
 pub is_busy : (told : Option Told) (w : Writer) (b : ℕ) (s : State) (txn : ℕ) (entry : Entry) → IsLogged told w b s → entry_of txn s.opened ≡ Some entry → done_of (Some entry) ≡ Some entry → 1 ≤ b
 is_busy told w b s txn entry log is busy_one = omega (arith, log.busy_is, busy_without s.opened txn entry is, ap one_if_done busy_one)
 
+-- the log has the state without a transaction that was given up
 pub rollback_logged : (told : Option Told) (w w' : Writer) (b b' : ℕ) (s : State) (txn : ℕ) (entry : Entry) → IsLogged told w b s → entry_of txn s.opened ≡ Some entry → done_of (Some entry) ≡ Some entry
     → Appends w w' (Rollback txn) → b' + 1 ≡ b → IsLogged told w' b' (close txn s)
 rollback_logged told w w' b b' s txn entry log is busy_one adds fewer =
@@ -159,10 +162,12 @@ rollback_logged told w w' b b' s txn entry log is busy_one adds fewer =
       waits = λ whole. waits_more told w w' s (close txn s) (Rollback txn) (log.waits whole) adds (omega arith) (λ start settled records m. rollback_mirrored start s settled records txn entry m is busy_one);
     }
 
+-- some puts are something done
 pub puts_done : (events : List Content) → 1 ≤ length events → done_of (Some (Puts events)) ≡ Some (Puts events)
 puts_done [] some = absurd (omega (arith, some))
 puts_done (e ∷ events) some = refl
 
+-- some takes are something done
 pub takes_done : (numbers : List ℕ) → 1 ≤ length numbers → done_of (Some (Takes numbers)) ≡ Some (Takes numbers)
 takes_done [] some = absurd (omega (arith, some))
 takes_done (n ∷ numbers) some = refl
@@ -182,6 +187,7 @@ staged_takes : (s : State) (txn : ℕ) (numbers : List ℕ) → 1 ≤ length num
 staged_takes s txn [] some = absurd (omega (arith, some))
 staged_takes s txn (n ∷ numbers) some = record { opened = refl; broken = refl; limit = refl; up = omega arith }
 
+-- the log has the state with puts staged
 pub commit_put_logged : (told : Option Told) (w w' : Writer) (b b' : ℕ) (s : State) (txn first count : ℕ) (events : List Content) → IsLogged told w b s → entry_of txn s.opened ≡ Some (Puts events) → 1 ≤ count → count ≡ length events → first ≡ next_number s → next_number s + length events ≤ 2 ^ 64 - 1
     → Appends w w' (CommitPut txn first count) → b' + 1 ≡ b → IsLogged told w' b' (stage txn (Some (Puts events)) s)
 commit_put_logged told w w' b b' s txn first count events log is some counted first_is fits adds fewer =
@@ -198,6 +204,7 @@ commit_put_logged told w w' b b' s txn first count events log is some counted fi
       waits = λ whole. waits_more told w w' s (stage txn (Some (Puts events)) s) rec (log.waits (sym to.broken ∙ whole)) adds' to.up (λ start settled records m. stage_put_mirrored start s settled records txn events m is many fits);
     }
 
+-- the log has the state with takes staged
 pub commit_take_logged : (told : Option Told) (w w' : Writer) (b b' : ℕ) (s : State) (txn count : ℕ) (numbers : List ℕ) → IsLogged told w b s → entry_of txn s.opened ≡ Some (Takes numbers) → 1 ≤ count → count ≡ length numbers
     → Appends w w' (CommitTake txn count) → b' + 1 ≡ b → IsLogged told w' b' (stage txn (Some (Takes numbers)) s)
 commit_take_logged told w w' b b' s txn count numbers log is some counted adds fewer =

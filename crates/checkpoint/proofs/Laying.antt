@@ -42,6 +42,7 @@ module _ (number : ℕ) (o0 o1 : Option Told) (law : Law o0) where
   at_rest : (t : Told) (text : List ℕ) → IsWritten t number text → Changes (Check number) IsPassedFile 0 t t
   at_rest t text w = changes_start t (Check number) IsPassedFile _ _ (written_at t text w) (λ file. closed_file w.touched w.longest file w.behind)
 
+  -- where a piece goes there is a file, and it is as long
   pub piece_place : (at : ℕ) (piece : List ℕ) → WhereTold o0 (λ t. (text : List ℕ) × IsSoFar t number at piece text) → WhereTold o0 (λ t. (was : List ℕ) × (t.reads (Check number) ≡ Some was) × (at ≤ length was))
   piece_place at piece is t told = let s = (is t told).1 in (0 ∷ s.front, s.written.reads, omega (arith, s.at_is))
 
@@ -82,23 +83,27 @@ module _ (number : ℕ) (o0 o1 : Option Told) (law : Law o0) where
         text_is = s.text_is ∙ sym (append-nil (s.front ++ piece));
       }
 
+  -- a crash while the text is synced leaves a file that is passed over, with one sync at most
   pub seal_moment : (r : Result (Unit {0}) Failed) → WhereTold o0 (λ t. (text : List ℕ) × IsWritten t number text) → Does (On (Check number) Sync) r o0 o1 → Tells o0 o1 (Changes (Check number) IsPassedFile 1)
   seal_moment r is does = tells_more o0 o1 (Leads (On (Check number) Sync) r) (Changes (Check number) IsPassedFile 1) (λ t u i0 i1 leads.
       let w = (is t i0).1 in
       changes_on Sync r t t u (Check number) IsPassedFile 0 _ _ (written_at t (is t i0).0 w) (law t i0) tt (at_rest t (is t i0).0 w) leads (λ file. closed_file w.touched w.longest file w.behind)) does
 
+  -- after a sync no crash leaves other bytes than the text behind a closed commit byte
   pub sealed : (text : List ℕ) → Does (On (Check number) Sync) all_done o0 o1 → WhereTold o0 (λ t. IsWritten t number text) → WhereTold o1 (λ t. IsKept t number (0 ∷ text))
   sealed text does is u told =
       let b = back o0 o1 (Leads (On (Check number) Sync) all_done) does u told in
       let a = at_after Sync b.0 u (Check number) _ _ (written_at b.0 text (is b.0 b.1)) b.2 in
       record { reads = a.reads; left = a.left }
 
+  -- where the sync succeeded, the file is kept
   pub sealed_if : (r : Result (Unit {0}) Failed) → Does (On (Check number) Sync) r o0 o1 → OnOk r ((text : List ℕ) → WhereTold o0 (λ t. IsWritten t number text) → WhereTold o1 (λ t. IsKept t number (0 ∷ text)))
   sealed_if (Ok tt) does = λ text is. sealed text does is
   sealed_if (Err e) does = tt
 
 -- one run of these calls after another
 
+-- two runs of calls in which a crash leaves the file passed over are one such run
 pub passes_on : (number a b n : ℕ) (o0 o1 o2 : Option Told) → a + b ≤ n → Tells o0 o1 (Changes (Check number) IsPassedFile a) → Tells o1 o2 (Changes (Check number) IsPassedFile b) → Tells o0 o2 (Changes (Check number) IsPassedFile n)
 passes_on number a b n o0 o1 o2 less first second =
     follows o0 o1 o2 (Changes (Check number) IsPassedFile a) (Changes (Check number) IsPassedFile b) (Changes (Check number) IsPassedFile n) (λ t u v i0 i1 i2 p q.
@@ -109,6 +114,7 @@ passes_on number a b n o0 o1 o2 less first second =
 pub rests : (number : ℕ) (s : Spool) → Law s.told → IsBegun number s → Tells s.told s.told (Changes (Check number) IsPassedFile 0)
 rests number s law is = tells_same s.told (Changes (Check number) IsPassedFile 0) (λ t told. let f = (is t told).1 in at_rest number s.told s.told law t f.front f.written)
 
+-- what a success brings also brings what follows from it
 pub ok_then : (A B : Type 0) (r : Result (Unit {0}) Failed) → (A → B) → OnOk r A → OnOk r B
 ok_then A B (Ok x) more a = more a
 ok_then A B (Err e) more a = tt
@@ -151,6 +157,7 @@ module _ (number : ℕ) where
     making : (r : Result (Unit {0}) Failed) (t u : Told) → o0 ≡ Some t → Leads (On (Check number) Make) r t u → Changes (Check number) IsPassedFile 0 t u
     making r t u is leads = changes_on Make r t t u (Check number) IsPassedFile 0 None Gone (at t is) (law t is) refl (changes_start t (Check number) IsPassedFile None Gone (at t is) unmade) leads under_making
 
+    -- a crash while the file is made leaves one that is passed over
     pub make1 : (r : Result (Unit {0}) Failed) → Does (On (Check number) Make) r o0 o1 → Tells o0 o1 Makes
     make1 r does = tells_more o0 o1 (Leads (On (Check number) Make) r) Makes (λ t u i0 i1 leads. more t u (making r t u i0 leads)) does
 
@@ -161,6 +168,7 @@ module _ (number : ℕ) where
       writing : (r : Result (Unit {0}) Failed) (t u v : Told) → o1 ≡ Some u → So 0 Made t u → Leads (On (Check number) (Write 0 (0 ∷ []))) r u v → Changes (Check number) IsPassedFile 0 t v
       writing r t u v is so leads = changes_on (Write 0 (0 ∷ [])) r t u v (Check number) IsPassedFile 0 _ _ so.stands (law1 u is) tt so.since leads under_writing
 
+      -- a crash while the closed commit byte is written leaves a file that is passed over
       pub make2 : (r : Result (Unit {0}) Failed) → Does (On (Check number) (Write 0 (0 ∷ []))) r o1 o2 → Tells o0 o2 Makes
       make2 r does = follows o0 o1 o2 (So 0 Made) (Leads (On (Check number) (Write 0 (0 ∷ []))) r) Makes (λ t u v i0 i1 i2 so leads. more t v (writing r t u v i1 so leads)) (made does1) does
 
@@ -170,11 +178,13 @@ module _ (number : ℕ) where
           (λ t u v i0 i1 i2 so leads. record { since = writing all_done t u v i1 so leads; stands = at_after (Write 0 (0 ∷ [])) u v (Check number) _ _ so.stands leads }) (made does1) does
 
       module _ (o3 : Option Told) (law2 : Law o2) (does2 : Does (On (Check number) (Write 0 (0 ∷ []))) all_done o1 o2) where
+        -- a crash while the closed commit byte is synced leaves a file that is passed over
         pub make3 : (r : Result (Unit {0}) Failed) → Does (On (Check number) Sync) r o2 o3 → Tells o0 o3 Makes
         make3 r does =
             follows o0 o2 o3 (So 0 First) (Leads (On (Check number) Sync) r) Makes
             (λ t u v i0 i1 i2 so leads. changes_on Sync r t u v (Check number) IsPassedFile 0 _ _ so.stands (law2 u i1) tt so.since leads under_writing) (first does2) does
 
+        -- after the three calls the file has its closed commit byte and no text yet
         pub made_closed : Does (On (Check number) Sync) all_done o2 o3 → WhereTold o3 (λ t. IsWritten t number [])
         made_closed does u is =
             let s = back o2 o3 (Leads (On (Check number) Sync) all_done) does u is in
@@ -222,6 +232,7 @@ module _ (number : ℕ) (text : List ℕ) where
     opening : (r : Result (Unit {0}) Failed) (t u : Told) → o0 ≡ Some t → Leads (On (Check number) (Write 0 (1 ∷ []))) r t u → Changes (Check number) Either 0 t u
     opening r t u is leads = changes_on (Write 0 (1 ∷ [])) r t t u (Check number) Either 0 _ _ (kept_at t is) (law t is) tt (changes_start t (Check number) Either _ _ (kept_at t is) still_shut) leads under_opening
 
+    -- a crash while the commit byte is opened leaves the file passed over, or open with its text
     pub open1 : (r : Result (Unit {0}) Failed) → Does (On (Check number) (Write 0 (1 ∷ []))) r o0 o1 → Tells o0 o1 OpensGate
     open1 r does = tells_more o0 o1 (Leads (On (Check number) (Write 0 (1 ∷ []))) r) OpensGate (λ t u i0 i1 leads. let c = opening r t u i0 leads in record { images = c.images; others = c.others; syncs = omega (arith, c.syncs) }) does
 
@@ -229,11 +240,13 @@ module _ (number : ℕ) (text : List ℕ) where
     written1 does = tells_more o0 o1 (Leads (On (Check number) (Write 0 (1 ∷ []))) all_done) (Sofar Opened) (λ t u i0 i1 leads. record { since = opening all_done t u i0 leads; stands = at_after (Write 0 (1 ∷ [])) t u (Check number) _ _ (kept_at t i0) leads }) does
 
     module _ (o2 : Option Told) (law1 : Law o1) (does1 : Does (On (Check number) (Write 0 (1 ∷ []))) all_done o0 o1) where
+      -- a crash while the open commit byte is synced leaves the file passed over, or open with its text
       pub open2 : (r : Result (Unit {0}) Failed) → Does (On (Check number) Sync) r o1 o2 → Tells o0 o2 OpensGate
       open2 r does =
           follows o0 o1 o2 (Sofar Opened) (Leads (On (Check number) Sync) r) OpensGate
           (λ t u v i0 i1 i2 so leads. changes_on Sync r t u v (Check number) Either 0 _ _ so.stands (law1 u i1) tt so.since leads under_opening) (written1 does1) does
 
+      -- after the sync the commit byte is open before the text, and no crash leaves other bytes
       pub gate_opened : Does (On (Check number) Sync) all_done o1 o2 → WhereTold o2 (λ t. IsKept t number (1 ∷ text))
       gate_opened does u is =
           let s = back o1 o2 (Leads (On (Check number) Sync) all_done) does u is in

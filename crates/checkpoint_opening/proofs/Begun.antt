@@ -60,6 +60,7 @@ module _ (files : Files) (c : CheckText) (start : Start) (means : Means files c 
 empty_is : IsStart empty_start
 empty_is = record { base = base_rising empty_start.base (omega arith); apart = tt; some = tt; earlier = λ t n more. refl }
 
+-- where a folder begins, its numbers rise and its takes are of earlier ones
 pub begins_are_starts : BeginsAreStarts
 begins_are_starts files start found (Front none empty all) = subst IsStart (sym empty) empty_is
 begins_are_starts files start found (From n c newest check from) = means_start files c start check.means

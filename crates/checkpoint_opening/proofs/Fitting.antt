@@ -52,6 +52,7 @@ lines_fit : (base : Base) (past : Past) (found : List Line) → AreSound base pa
 lines_fit base past [] sound fits = fits
 lines_fit base past (line ∷ found) sound fits = lines_fit base (past_line past line) found sound.1 (line_fits base past line sound.0 fits)
 
+-- the next number after sound lines fits 64 bits where that of their start does
 pub left_fits : (s : Start) (found : List Line) (left : Base) (txn : ℕ) → StandsFrom s found left txn → s.base.first < 2 ^ 64 → left.first < 2 ^ 64
 left_fits s found left txn stands fits =
     let none : journal (start_past s) ≡ [] = open_commits_none s.opened [] in

@@ -125,6 +125,7 @@ module _ (files folder : Files) (number : ℕ) (content : frames.Content) (g : G
   open_grows [] [] ((txn, Puts events) ∷ opened) are = are
   open_grows [] [] ((txn, Takes numbers) ∷ opened) are = are
 
+-- a folder with one log file more begins where it did, with the lines of that file after the others
 pub grown_begins : GrownBegins
 grown_begins files folder number content start found g (Front none empty all) = Front (newest_grows files folder number content g None none) empty (record {
   logs = all.logs ++ record { number = number; content = content } ∷ [];

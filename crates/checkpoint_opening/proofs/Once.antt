@@ -220,6 +220,7 @@ txn_low s found left txn high stands low = from s.txn (next_txn (past_lines (sta
     from : (a b : ℕ) → txn ≡ max a b → a < high
     from a b is = grind (arith, is, low)
 
+-- a folder recovers to one list and to one next transaction number
 pub recovers_to_once : RecoversToOnce
 recovers_to_once files a b x y bounded r q fa fb fx fy =
     let one = one_beginning files bounded r.start q.start r.found q.found r.begins q.begins

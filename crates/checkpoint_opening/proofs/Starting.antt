@@ -324,6 +324,7 @@ some_events (Some check) read = read_has_events check read
 
 -- why a folder was not opened
 
+-- a fault that the reading of a checkpoint tells is one that the opening tells
 pub check_of : (e : CheckReadRefused) (x : OpeningRefused) (P : ℕ → ℕ → Type 0) → x ≡ of_check e → WhereBad e P → WhereBadCheck x P
 check_of e x P is bad = subst (λ (y : OpeningRefused). WhereBadCheck y P) (sym is) (from e bad)
   where
@@ -332,6 +333,7 @@ check_of e x P is bad = subst (λ (y : OpeningRefused). WhereBadCheck y P) (sym 
     from (checks.BadCheck file at) bad = bad
     from checks.NoMemory bad = tt
 
+-- a fault of the log that the replay tells is one that the opening tells
 pub log_of : (e : ReplayRefused) (x : OpeningRefused) (P Q : ℕ → ℕ → Type 0) → x ≡ of_replay e → ((file at : ℕ) → P file at → Q file at) → replaying.WhereBadLog e P → WhereBadLog x Q
 log_of e x P Q is maps bad = subst (λ (y : OpeningRefused). WhereBadLog y Q) (sym is) (from e bad)
   where
@@ -341,6 +343,7 @@ log_of e x P Q is maps bad = subst (λ (y : OpeningRefused). WhereBadLog y Q) (s
     from (replays.OverCapacity count) bad = tt
     from replays.NoMemory bad = tt
 
+-- a count above the capacity that the replay tells is one that the opening tells
 pub over_of : (e : ReplayRefused) (x : OpeningRefused) (P Q : ℕ → Type 0) → x ≡ of_replay e → ((count : ℕ) → P count → Q count) → replaying.WhereOver e P → WhereOver x Q
 over_of e x P Q is maps over = subst (λ (y : OpeningRefused). WhereOver y Q) (sym is) (from e over)
   where

@@ -12,6 +12,7 @@ use Rattle.checkpoint.specs.Says.{entry_of as listed, listed_at}
 use Rattle.checkpoint.specs.Text.{Rise}
 use Rattle.checkpoint_places.specs.Texts.{listed_by}
 
+-- open transactions rise from a low number to one that is no less
 pub open_within : (low top : ℕ) (os : List (ℕ × Entry)) → OpenRise low os top → low ≤ top
 open_within low top [] rise = rise
 open_within low top (o ∷ os) rise = omega (arith, rise.0, open_within (o.0 + 1) top os rise.1)

@@ -11,6 +11,7 @@ use Rattle.checkpoint.specs.Says.{listed_at, live_at, puts_at, puts_in}
 use Rattle.checkpoint.specs.Text.{Rise}
 use Rattle.checkpoint.proofs.Listing.{from, from_all, live_end, live_next, none_opened, unopened}
 
+-- what follows of each thing of a list follows of all
 pub all_maps : {A : Type 0} (P Q : A → Type 0) (xs : List A) → ((x : A) → P x → Q x) → AllByRecursion P xs → AllByRecursion Q xs
 all_maps P Q [] maps all = tt
 all_maps P Q (x ∷ xs) maps all = (maps x all.0, all_maps P Q xs maps all.1)
@@ -21,6 +22,7 @@ FileFrom least p = least ≤ p.file
 abbrev pub LiveFrom : ℕ → ℕ × Pointer → Type 0
 LiveFrom least l = least ≤ l.1.file
 
+-- files from a number on are from any lesser one on
 pub file_less : (a b : ℕ) (ps : List Pointer) → a ≤ b → AllByRecursion (λ p. FileFrom b p) ps → AllByRecursion (λ p. FileFrom a p) ps
 file_less a b ps less all = all_maps (λ p. FileFrom b p) (λ p. FileFrom a p) ps (λ p more. omega (arith, less, more)) all
 
@@ -32,6 +34,7 @@ pub record LeftSoFar (least most : ℕ) (live : List Left) (after : Option ℕ) 
   pub each : (high : ℕ) → Rise 0 high (map live_at live) → (x : ℕ) → x ≤ least → AllByRecursion (λ l. LiveFrom x l) (from (least_above after) (map live_at live)) → AllByRecursion (λ l. LiveFrom x l) (map live_at live)
   pub greatest : (other : ℕ) → other ≤ most → AllByRecursion (λ l. LiveFrom other l) (map live_at live) → other ≤ least
 
+-- before the first event of the ring the least file is the greatest that it may be
 pub left_begun : (most : ℕ) (live : List Left) → LeftSoFar most most live None
 left_begun most live = record {
   below = omega arith;
@@ -51,6 +54,7 @@ next_one P low n p (l ∷ live) is all = by (leb_tells low l.number) (λ later. 
         subst P same all.0
     by (inr below) later = later (let passes : next_from low live ≡ next_from low (l ∷ live) = rw (below.0) refl in passes ∙ is)
 
+-- one event more of the ring, whose file may be less
 pub left_step : (least most n : ℕ) (p : Pointer) (live : List Left) (after : Option ℕ) → LeftSoFar least most live after → next_from (least_above after) live ≡ Some (n, p) → LeftSoFar (min least p.file) most live (Some n)
 left_step least most n p live after so is = record {
   below = less most so.below;
@@ -72,6 +76,7 @@ left_step least most n p live after so is = record {
     both : (x : ℕ) → x ≤ least → x ≤ p.file → x ≤ min least p.file
     both x a b = grind (arith, a, b)
 
+-- after the last event no file of the ring is less
 pub left_done : (least most : ℕ) (live : List Left) (after : Option ℕ) → LeftSoFar least most live after → next_from (least_above after) live ≡ None → (high : ℕ) → Rise 0 high (map live_at live) → AllByRecursion (λ l. LiveFrom least l) (map live_at live)
 left_done least most live after so none high rise = so.each high rise least (omega arith) (subst (λ (l : List (ℕ × Pointer)). AllByRecursion (λ k. LiveFrom least k) l) (sym (live_end (least_above after) live none)) tt)
 
@@ -82,12 +87,14 @@ pub record OpenSoFar (least most : ℕ) (table : Table) (after : Option ℕ) : T
   pub each : (txn : ℕ) → txn < least_above after → AllByRecursion (λ p. FileFrom least p) (puts_at table txn)
   pub greatest : (other : ℕ) → other ≤ most → ((txn : ℕ) → AllByRecursion (λ p. FileFrom other p) (puts_at table txn)) → other ≤ least
 
+-- before the first open transaction the least file is the greatest that it may be
 pub open_begun : (most : ℕ) (table : Table) → OpenSoFar most most table None
 open_begun most table = record { below = omega arith; each = λ txn less. absurd (omega (arith, less)); greatest = λ other less all. less }
 
 not_open : (table : Table) (txn least : ℕ) → open_at table txn ≡ None → AllByRecursion (λ p. FileFrom least p) (puts_at table txn)
 not_open table txn least none = subst (λ (o : Option Open). AllByRecursion (λ p. FileFrom least p) (puts_in o)) (sym none) tt
 
+-- one open transaction more, whose puts may be in a lesser file
 pub open_step : (least more most txn : ℕ) (table : Table) (after : Option ℕ) → OpenSoFar least most table after → IsNext table after (Some txn) → more ≤ least → AllByRecursion (λ p. FileFrom more p) (puts_at table txn)
     → ((other : ℕ) → other ≤ least → AllByRecursion (λ p. FileFrom other p) (puts_at table txn) → other ≤ more) → OpenSoFar more most table (Some txn)
 open_step least more most txn table after so next less here further = record {
@@ -104,6 +111,7 @@ open_step least more most txn table after so next less here further = record {
     by t low (inr since) (inl earlier) = not_open table t more (unopened table after txn t next since earlier)
     by t low (inr since) (inr later) = let same : txn ≡ t = omega (arith, low, later) in subst (λ (n : ℕ). AllByRecursion (λ p. FileFrom more p) (puts_at table n)) same here
 
+-- after the last open transaction none has puts in a lesser file
 pub open_done : (least most : ℕ) (table : Table) (after : Option ℕ) → OpenSoFar least most table after → IsNext table after None → (txn : ℕ) → AllByRecursion (λ p. FileFrom least p) (puts_at table txn)
 open_done least most table after so next txn = by (side txn (least_above after))
   where
@@ -159,6 +167,7 @@ all_front : (P : Pointer → Type 0) (ps : List Pointer) (p : Pointer) → AllBy
 all_front P [] p all = (tt, all.0)
 all_front P (q ∷ ps) p all = let rest = all_front P ps p all.1 in ((all.0, rest.0), rest.1)
 
+-- one pointer more, whose file may be less
 pub puts_step : (least most : ℕ) (ps : List Pointer) (p : Pointer) → PutsSoFar least most ps → PutsSoFar (min least p.file) most (ps ++ p ∷ [])
 puts_step least most ps p so = record {
   below = less so.below;
@@ -178,6 +187,7 @@ puts_step least most ps p so = record {
     both : (x : ℕ) → x ≤ least → x ≤ p.file → x ≤ min least p.file
     both x a b = grind (arith, a, b)
 
+-- before the first pointer the least file is the greatest that it may be
 pub puts_begun : (most : ℕ) (ps : List Pointer) → PutsSoFar most most (take 0 ps)
 puts_begun most ps = subst (λ (l : List Pointer). PutsSoFar most most l) (none ps) (record { below = omega arith; each = tt; greatest = λ other less all. less })
   where
@@ -185,9 +195,11 @@ puts_begun most ps = subst (λ (l : List Pointer). PutsSoFar most most l) (none 
     none [] = refl
     none (p ∷ l) = refl
 
+-- after the last pointer the least file is that of all
 pub puts_done : (least most i : ℕ) (ps : List Pointer) → length ps ≤ i → PutsSoFar least most (take i ps) → PutsSoFar least most ps
 puts_done least most i ps past so = subst (λ (l : List Pointer). PutsSoFar least most l) (take_all i ps past) so
 
+-- the pointer at the next place is one more
 pub puts_index : (least most i : ℕ) (ps : List Pointer) (d : Pointer) → i < length ps → PutsSoFar least most (take i ps) → PutsSoFar (min least (get_or ps i d).file) most (take (i + 1) ps)
 puts_index least most i ps d less so = subst (λ (l : List Pointer). PutsSoFar (min least (get_or ps i d).file) most l) (sym (take_more ps i d less)) (puts_step least most (take i ps) (get_or ps i d) so)
 

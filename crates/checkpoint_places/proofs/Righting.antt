@@ -42,6 +42,7 @@ live_are files known held [] (item ∷ items) stands look = look
 live_are files known held (l ∷ live) [] stands look = look
 live_are files known held (l ∷ live) (item ∷ items) stands look = (look.0.0, stands l.pointer item.1 look.0.2, live_are files known held live items stands look.1)
 
+-- the numbers of the ring's events rise as those of the items that are left
 pub live_rise : (known : Known) (held : List ℕ) (live : List Left) (items : Items) (low first : ℕ) → LookLeft known held live items → Rising low items first → Rise low first (map live_at live)
 live_rise known held [] [] low first look rising = tt
 live_rise known held [] (item ∷ items) low first look rising = absurd look
@@ -161,6 +162,7 @@ module _ (files : Files) (puts : ℕ → List Pointer) (takes : ℕ → List ℕ
       from [] stand later = absurd stand
       from (p ∷ ps) stand later = (refl, stand, later)
 
+-- a checkpoint of places is right for such a folder
 pub places_are_right : PlacesAreRight
 places_are_right files known p s place looks few has = record {
   place = has.there;

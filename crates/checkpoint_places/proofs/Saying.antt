@@ -18,6 +18,7 @@ are_listed of os top rise low none = record {
   each = λ n. listed_each of 0 top n os rise (none n);
 }
 
+-- a checkpoint of places says what the ring and the table have, and no more
 pub places_are_said : PlacesAreSaid
 places_are_said settled known p s place ring looks low live = record {
   place_is = refl;

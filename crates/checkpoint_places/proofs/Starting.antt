@@ -182,6 +182,7 @@ takes_below low top ((m, Puts events) ∷ os) rise = takes_below (m + 1) top os 
 takes_below low top ((m, Takes []) ∷ os) rise = takes_below (m + 1) top os rise.1
 takes_below low top ((m, Takes (n ∷ numbers)) ∷ os) rise = (omega (arith, open_within (m + 1) top os rise.1), takes_below (m + 1) top os rise.1)
 
+-- the state has a start, with each open transaction that did something
 pub state_has_start : StateHasStart
 state_has_start settled known p s looks =
     let rise = looks.sound.opened in

@@ -76,6 +76,7 @@ abbrev pub mixed : ℕ → ℕ → Files → Files → Files
 mixed least laid image reads (Log n) = cond (nat_le least n) (image (Log n)) (reads (Log n))
 mixed least laid image reads (Check n) = cond (nat_le laid n) (image (Check n)) (reads (Check n))
 
+-- a number that is at most another one is tested to be so
 pub less_equal : (a b : ℕ) → a ≤ b → nat_le a b ≡ true
 less_equal a b le = grind (arith, nat_tests)
 

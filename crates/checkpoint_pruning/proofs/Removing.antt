@@ -56,6 +56,7 @@ apart_numbers n m ne = by (eqb_tells n m)
     by (inl same) = absurd (ne same.1)
     by (inr other) = other.0
 
+-- checkpoints are a kind of files
 pub checks_are : IsKind checks_kind
 checks_are = record {
   from = λ n k le. le;
@@ -65,6 +66,7 @@ checks_are = record {
   checks_rise = λ a b le. le;
 }
 
+-- log files are a kind of files
 pub logs_are : IsKind logs_kind
 logs_are = record {
   from = λ n k le. le;

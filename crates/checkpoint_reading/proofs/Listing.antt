@@ -287,5 +287,6 @@ no_put_of files p txn none put = none put.1 (put_of_in files txn p put.1 put.2)
 pub found_some : (files : Files) (p : Pointer) (txn : Option ℕ) (found : ℕ) → txn ≡ Some found → IsPutIn files p txn → IsPutIn files p (Some found)
 found_some files p txn found same is = subst (λ (o : Option ℕ). IsPutIn files p o) same is
 
+-- or nothing that was put stands where it was looked for
 pub found_none : (files : Files) (p : Pointer) (txn : Option ℕ) → txn ≡ None → IsPutIn files p txn → IsPutIn files p None
 found_none files p txn same is = subst (λ (o : Option ℕ). IsPutIn files p o) same is

@@ -98,10 +98,12 @@ lines_elsewhere files later least place found same low lines = record {
   lines_are = lines.lines_are;
 }
 
+-- a folder with the files that its newest checkpoint names begins at the same start
 pub serves_elsewhere : ServesElsewhere
 serves_elsewhere files later least number c start found same names newest file check lines =
     From number c newest (check_elsewhere files later least number c start same names file check) (lines_elsewhere files later least c.place found same names.place lines)
 
+-- a folder with the same log files and no checkpoint begins at the front of its log
 pub front_elsewhere : FrontElsewhere
 front_elsewhere files later found same newest all = Front newest refl (record { logs = all.logs; are = logs_there files later 0 same 0 (2 ^ 32) all.logs (omega arith) all.are; lines_are = all.lines_are })
 
@@ -112,6 +114,7 @@ pub not_both : (file : Option (List ℕ)) → IsPassedFile file → IsSomeAnd fi
 not_both None passed is = is
 not_both (Some bytes) passed is = is passed
 
+-- the newest checkpoint stays so while the file of one that is passed over changes
 pub passed_is_not_newest : PassedIsNotNewest
 passed_is_not_newest files later n newest before now same is = by_newest newest is
   where
@@ -137,6 +140,7 @@ begins : (c : CheckText) → get_or (check_bytes c) 0 0 ≡ 70
 unfolding check_bytes
 begins c = refl
 
+-- an open checkpoint is the newest where each one above it is passed over
 pub open_is_newest : OpenIsNewest
 open_is_newest files n c spelled above = (subst (λ (file : Option (List ℕ)). IsSomeAnd file (λ bytes. IsPassed bytes → ⊥)) (sym spelled) not_passed, above)
   where
@@ -149,6 +153,7 @@ open_is_newest files n c spelled above = (subst (λ (file : Option (List ℕ)). 
 not_above : (files : Files) (a b : ℕ) → IsNewest files (Some a) → IsNewest files (Some b) → a < b → ⊥
 not_above files a b x y less = not_both (files (Check b)) (x.1 b less) y.0
 
+-- a folder has one newest checkpoint, or none
 pub one_newest : HasOneNewest
 one_newest files None None x y = refl
 one_newest files None (Some b) x y = absurd (not_both (files (Check b)) (x b) y.0)

@@ -24,12 +24,14 @@ from_front files P none holds =
     let some = has_one_list files in
     (empty_start, lines some.0, Front none refl (record { logs = some.0; are = some.1; lines_are = refl }), holds some.0 some.1)
 
+-- a folder without a checkpoint recovers to what its log files stand for, and to nothing else
 pub front_recovers : FrontRecovers
 front_recovers files left txn none = (
   λ r. at_front files (λ start found. StandsFrom start found left txn) r.start r.found none r.begins r.stands,
   λ r. let some = from_front files (λ start found. StandsFrom start found left txn) none r in record { start = some.0; found = some.1; begins = some.2; stands = some.3 },
 )
 
+-- its first fault is that of its log files
 pub front_is_bad : FrontIsBad
 front_is_bad files file at none = (
   λ r. at_front files (λ start found. IsBadFrom start found file at) r.start r.found none r.begins r.bad,

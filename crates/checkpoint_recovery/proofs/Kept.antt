@@ -34,6 +34,7 @@ names_all c = record { place = omega arith; live = live c.live; puts = puts c.pu
     puts [] = tt
     puts (o ∷ l) = (pointers o.1, puts l)
 
+-- a folder recovers to the same while a checkpoint is laid
 pub laid_recovers : LaidRecovers
 laid_recovers files later n left txn same before now others r = recovers_there files later left txn r (begins r.start r.found r.begins)
   where
@@ -43,6 +44,7 @@ laid_recovers files later n left txn same before now others r = recovers_there f
         let apart : number ≢ n = λ one. not_both (files (Check number)) (subst (λ (k : ℕ). IsPassedFile (files (Check k))) (sym one) before) newest.0 in
         serves_elsewhere files later 0 number c start found same (names_all c) (passed_is_not_newest files later n (Some number) before now others newest) (others number apart) check lines
 
+-- a folder recovers to the same without the files that its checkpoints do not need
 pub pruned_recovers : PrunedRecovers
 pruned_recovers files later least laid left txn same others needs r = recovers_there files later left txn r (begins r.start r.found r.begins)
   where

@@ -51,6 +51,7 @@ one_file : (number at : ℕ) (file : Option (List ℕ)) (a b : List Line) → Is
 one_file number at None a b is is' = absurd is
 one_file number at (Some bytes) a b is is' = one_from number bytes at a b is is'
 
+-- from a place on a folder has one list of lines
 pub one_reading : HasOneReading
 one_reading files place a b x y =
     let own = one_file place.file place.at (files (Log place.file)) x.own y.own x.there y.there in
@@ -87,6 +88,7 @@ cut bytes at front behind is =
 split-behind : (front frames : List (List Rec)) (bytes tail : List ℕ) → bytes ≡ opened (front ++ frames) ++ tail → bytes ≡ opened front ++ (opened frames ++ tail)
 split-behind front frames bytes tail is = is ∙ (ap (λ (l : List ℕ). l ++ tail) (opened-append front frames) ∙ append_assoc (opened front) (opened frames) tail)
 
+-- after some of its frames a file goes on as from the byte behind them
 pub reads_on : ReadsOn
 reads_on number at bytes front frames fault goes = (from goes, ap (record_lines number) (items-append at front frames) ∙ lines-append number (frame_items at front) (frame_items (at + length (opened front)) frames))
   where

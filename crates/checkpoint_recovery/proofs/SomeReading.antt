@@ -101,6 +101,7 @@ logs_behind files from =
       | inr high ↦ ([], λ k above below. absurd (omega (arith, high, above, below)))
     ]
 
+-- from a place in its log a folder has some lines, whatever its files hold
 pub some_reading : HasSomeReading
 some_reading files place is = by_file (files (Log place.file)) refl is
   where

@@ -26,15 +26,18 @@ use Rattle.checkpoint_replay.specs.Replayed.{AreIn}
 abbrev pub Within : Places → Places → Type 0
 Within a b = (p : Pointer) (event : Content) → IsPlaced a p event → IsPlaced b p event
 
+-- what is placed in the first of two is placed in both
 pub in_first : (a b : Places) → Within a (a ++ b)
 in_first [] b p event is = absurd is
 in_first (k ∷ a) b p event (inl same) = inl same
 in_first (k ∷ a) b p event (inr older) = inr (in_first a b p event older)
 
+-- what is placed in the second of two is placed in both
 pub in_second : (a b : Places) → Within b (a ++ b)
 in_second [] b p event is = is
 in_second (k ∷ a) b p event is = inr (in_second a b p event is)
 
+-- the events that are left stay placed among more places
 pub live_within : (a b : Places) (live : List (ℕ × Pointer)) (items : List (ℕ × Content)) → Within a b → LivePlaced a live items → LivePlaced b live items
 live_within a b [] [] within are = tt
 live_within a b [] (item ∷ items) within are = are
@@ -47,6 +50,7 @@ events_within a b [] (event ∷ events) within are = are
 events_within a b (p ∷ pointers) [] within are = are
 events_within a b (p ∷ pointers) (event ∷ events) within are = (within p event are.0, events_within a b pointers events within are.1)
 
+-- the events of what is open stay placed among more places
 pub open_within : (a b : Places) (puts : List (ℕ × List Pointer)) (takes : List (ℕ × List ℕ)) (opened : List (ℕ × Entry)) → Within a b → OpenPlaced a puts takes opened → OpenPlaced b puts takes opened
 open_within a b (o ∷ puts) takes [] within are = are
 open_within a b (o ∷ puts) takes ((txn, Puts events) ∷ opened) within are = (are.0, events_within a b o.1 events within are.1, open_within a b puts takes opened within are.2)
@@ -139,6 +143,7 @@ pub record PlacesOf (files : Files) (c : CheckText) (left : List (ℕ × Content
   pub live : LivePlaced places c.live left
   pub opens : OpenPlaced places c.puts c.takes opened
 
+-- a right checkpoint has places at which all its events stand
 pub places_of : (files : Files) (c : CheckText) (left : List (ℕ × Content)) (opened : List (ℕ × Entry)) → IsRight files c left opened → PlacesOf files c left opened
 places_of files c left opened right =
     let live = live_in files c.live left right.live in
@@ -159,6 +164,7 @@ ring_in files places [] (item ∷ items) within has = has
 ring_in files places (l ∷ live) [] within has = has
 ring_in files places (l ∷ live) (item ∷ items) within has = (has.0, within l.pointer item.1 has.1, ring_in files places live items within has.2)
 
+-- where places stand in a folder, the PUT of each event placed there is in its file
 pub placed_in : (files : Files) (places : Places) (p : Pointer) (event : Content) → AreIn files places → IsPlaced places p event → PutIn files p event
 placed_in files [] p event all is = absurd is
 placed_in files (k ∷ places) p event all (inl same) = subst (λ (q : Pointer). PutIn files q event) same.0 (subst (λ (e : Content). PutIn files k.0 e) same.1 all.0)

@@ -306,6 +306,7 @@ module _ (check : Check) (c : CheckText) (places : Places) (start : Start) (keep
   greatest : (a b : ℕ) → b ≤ a → a ≡ max a b
   greatest a b less = grind (arith, less)
 
+-- what a replay begins with from a checkpoint is kept, with no marks but those of what is open at its start
 pub checks_are_kept : ChecksAreKept
 checks_are_kept check c places start index keeps are at of =
     let st = start_is check c places start keeps are at in

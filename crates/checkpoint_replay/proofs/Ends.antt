@@ -131,6 +131,7 @@ module _ (told : Option Told) where
   from_logs P holds t is start found from =
       subst (λ (s : Start). P s found) (sym from.0) (subst (P empty_start) (sym from.1.lines_are) (holds t is from.1.logs from.1.are))
 
+  -- what was replayed from all log files was replayed from an empty start
   pub front_all : (r : Replayed) → WhereTold told (λ t. WhereLogs t.reads (λ logs. AreReplayed logs r)) → WhereStarts told None (λ files start found. IsReplayedFrom files start found r)
   front_all r holds t is start found from =
       let all = from.1 in
@@ -143,6 +144,7 @@ module _ (told : Option Told) where
       } in
       subst (λ (s : Start). IsReplayedFrom t.reads s found r) (sym from.0) (subst (λ (l : List Line). IsReplayedFrom t.reads empty_start l r) (sym all.lines_are) it)
 
+  -- the events stand elsewhere, too, where all log files were replayed without a checkpoint
   pub front_elsewhere : (r : Replayed) → WhereTold told (λ t. WhereLogs t.reads (λ logs. AreReplayed logs r)) → WhereStarts told None (λ files start found. StandElsewhere None start found r)
   front_elsewhere r holds t is start found from folder there =
       let all = from.1 in
@@ -153,17 +155,21 @@ module _ (told : Option Told) where
       let left : one.left ≡ replayed start found = one.stands.left_is ∙ (λ k. replayed (sym from.0 k) (sym all.lines_are k)) in
       subst (λ (base : Base). LiveAre folder (map live_at r.ring.live) base.items) left items
 
+  -- a fault in the log files is the first fault of an opening without a checkpoint
   pub front_bad : (file at : ℕ) → WhereTold told (λ t. WhereLogs t.reads (λ logs. IsBadFrom empty_start (lines logs) file at)) → WhereStarts told None (λ files start found. IsBadFrom start found file at)
   front_bad file at = from_logs (λ start found. IsBadFrom start found file at)
 
+  -- as many events are left as the log files leave
   pub front_count : (count : ℕ) → WhereTold told (λ t. WhereLogs t.reads (λ logs. LeavesCount logs count)) → WhereStarts told None (λ files start found. LeavesFrom start found count)
   front_count count = from_logs (λ start found. LeavesFrom start found count)
 
+  -- at most so many steps are counted as the log files have records
   pub front_few : (none steps : ℕ) → WhereTold told (λ t. WhereLogs t.reads (λ logs. steps ≤ none + record_count (lines logs))) → WhereStarts told None (λ files start found. steps ≤ none + record_count found)
   front_few none steps = from_logs (λ start found. steps ≤ none + record_count found)
 
 -- of answers
 
+-- what follows of the state that a replay gave
 pub within_is : (r : Result Replayed ReplayRefused) (Q R : Replayed → Type 0) → ((x : Replayed) → Q x → R x) → IfOk r Q → IfOk r R
 within_is (Ok x) Q R maps is = maps x is
 within_is (Err e) Q R maps is = tt

@@ -41,6 +41,7 @@ none_dropped : (drops : Bool) (at : ℕ) → 16 < at → (drops ≡ true → at 
 none_dropped true at behind to = absurd (let first = to refl in omega (arith, behind, first))
 none_dropped false at behind to = refl
 
+-- what the reader of a file from a place on gives are the lines from there on
 pub given : (told : Option Told) (number at : ℕ) (reader : Reader) (bytes : List ℕ) (own : List Line) → Begun told number at reader → HasFile told number bytes → HasFrom number bytes at own → IsGiven reader number bytes own
 given told number at reader bytes own begun has (Whole first content holds is) =
     let drops = begun.1 bytes content has holds in

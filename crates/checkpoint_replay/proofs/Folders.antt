@@ -26,9 +26,11 @@ use Rattle.checkpoint_replay.specs.Reading.{WhereBehind, WhereFrom}
 
 -- faults in front of other lines, and after some that were applied
 
+-- a fault in the front is the fault of all lines
 pub stops_front : (a b : List Line) (old : Indexing) (f at : ℕ) → StopsIn a old f at → StopsIn (a ++ b) old f at
 stops_front a b old f at stops places s past stand keeps = fault_front s.base past a b f at (stops places s past (stand_front places a b stand) keeps)
 
+-- a fault behind lines that were applied is the fault of all
 pub stops_behind : (a b : List Line) (old mid : Indexing) (f at : ℕ) → GoesThrough a old mid → StopsIn b mid f at → StopsIn (a ++ b) old f at
 stops_behind a b old mid f at goes stops places s past stand keeps =
     let one = goes places s past (stand_front places a b stand) keeps in
@@ -108,6 +110,7 @@ no_rest files after (log ∷ rest) are none = absurd (gone (files (Log log.numbe
     gone None is none = is
     gone (Some bytes) is none = let e : Some bytes ≡ None = none in cc
 
+-- before any later file was applied, nothing was done
 pub folders_none : (was : Option Told) (faulty file : ℕ) (first : Indexing) (none : ℕ) → IsKept first → FoldersOn was was faulty faulty file (file + 1) first first none none
 folders_none was faulty file first none kept = record {
   same = refl;
@@ -186,6 +189,7 @@ folders_all was told faulty faults file after first now none steps on ends t is 
     let all : u.done ≡ logs = sym (append-nil u.done) ∙ ap (λ (l : List LogFile). u.done ++ l) (sym (no_rest t.reads after u.rest u.are (ends t (on.same ∙ is)))) ∙ sym u.split in
     subst (λ (l : List LogFile). GoesThrough (lines l) first now) all u.goes
 
+-- the steps counted are at most as many as the records that were applied
 pub folders_ticks : (was told : Option Told) (faulty faults file from : ℕ) (first now : Indexing) (none steps more : ℕ) → FoldersOn was told faulty faults file from first now none steps → more ≡ steps
     → WhereBehind was file (λ logs. more ≤ none + record_count (lines logs))
 folders_ticks was told faulty faults file from first now none steps more on same t is logs are =
@@ -206,6 +210,7 @@ folders_bad was told faulty faults file after next first now none steps e on com
     (stops_front (lines h.done ++ own) (lines h.more) first f a (stops_behind (lines h.done) own first now f a h.goes (stops h.bytes own h.has h.front))))
     bad
 
+-- with those of the file at fault, they are at most as many as the records behind
 pub folders_few : (was told : Option Told) (faulty faults file : ℕ) (after : Option FileName) (next : ℕ) (first now : Indexing) (none steps more_steps : ℕ)
     → FoldersOn was told faulty faults file (floor after) first now none steps → WhereTold told (λ t. IsNext t.reads after (Some (Log next))) → next < 2 ^ 32
     → WhereFrom told next 16 (λ own. more_steps ≤ steps + record_count own)

@@ -22,6 +22,7 @@ use Rattle.checkpoint_replay.specs.Checked.{OpenPlaced}
 
 -- numbers that rise
 
+-- a number below those that rise is none of them
 pub not_below : {A : Type 0} (low high k : ℕ) (xs : List (ℕ × A)) → Rise low high xs → k < low → is_among (map number_of xs) k ≡ false
 not_below low high k [] rise under = refl
 not_below low high k (x ∷ xs) rise under = from (eqb_tells x.0 k) (not_below (x.0 + 1) high k xs rise.2 (omega (arith, rise.0, under)))
@@ -30,6 +31,7 @@ not_below low high k (x ∷ xs) rise under = from (eqb_tells x.0 k) (not_below (
     from (inl same) rest = absurd (omega (arith, same.1, rise.0, under))
     from (inr other) rest = rw other.0 rest
 
+-- a number above those that rise is none of them
 pub not_above : {A : Type 0} (low high k : ℕ) (xs : List (ℕ × A)) → Rise low high xs → high ≤ k → is_among (map number_of xs) k ≡ false
 not_above low high k [] rise over = refl
 not_above low high k (x ∷ xs) rise over = from (eqb_tells x.0 k) (not_above (x.0 + 1) high k xs rise.2 over)
@@ -40,6 +42,7 @@ not_above low high k (x ∷ xs) rise over = from (eqb_tells x.0 k) (not_above (x
 
 -- among others
 
+-- of two tests of which one holds, the first or the second does
 pub either_or : (b c : Bool) → (b || c) ≡ true → (b ≡ true) ⊎ (c ≡ true)
 either_or true c is = inl refl
 either_or false c is = inr is
@@ -60,9 +63,11 @@ both_not : (b c : Bool) → b ≡ false → c ≡ false → (b || c) ≡ false
 both_not true c is other = absurd (cc)
 both_not false c is other = other
 
+-- what is among the first numbers is among both
 pub in_front : (a b : List ℕ) (n : ℕ) → is_among a n ≡ true → is_among (a ++ b) n ≡ true
 in_front a b n is = or_among a b n ∙ first_so (is_among a n) (is_among b n) is
 
+-- what is among the second numbers is among both
 pub in_back : (a b : List ℕ) (n : ℕ) → is_among b n ≡ true → is_among (a ++ b) n ≡ true
 in_back a b n is = or_among a b n ∙ second_so (is_among a n) (is_among b n) is
 
@@ -89,6 +94,7 @@ apart_rest x others (n ∷ numbers) apart = ((neither (x == n) (is_among others 
 
 -- the keys of what is open
 
+-- the transactions that are open are those that the checkpoint lists, in its order
 pub open_keys : (places : Places) (puts : List (ℕ × List Pointer)) (takes : List (ℕ × List ℕ)) (opened : List (ℕ × Entry)) → OpenPlaced places puts takes opened → keys opened ≡ map number_of puts ++ map number_of takes
 open_keys places (o ∷ puts) takes [] are = absurd are
 open_keys places (o ∷ puts) takes ((txn, Puts events) ∷ opened) are = ap (λ (n : ℕ). n ∷ keys opened) are.0 ∙ ap (λ (l : List ℕ). o.0 ∷ l) (open_keys places puts takes opened are.2)
@@ -100,10 +106,12 @@ open_keys places [] [] [] are = refl
 open_keys places [] [] ((txn, Puts events) ∷ opened) are = absurd are
 open_keys places [] [] ((txn, Takes numbers) ∷ opened) are = absurd are
 
+-- numbers that rise are apart
 pub rise_apart : {A : Type 0} (low high : ℕ) (xs : List (ℕ × A)) → Rise low high xs → AreApart (map number_of xs)
 rise_apart low high [] rise = tt
 rise_apart low high (x ∷ xs) rise = (not_below (x.0 + 1) high x.0 xs rise.2 (omega arith), rise_apart (x.0 + 1) high xs rise.2)
 
+-- numbers of puts and of takes are apart, if neither has one of the other's
 pub keys_apart : (low high : ℕ) (puts : List (ℕ × List Pointer)) (takes : List (ℕ × List ℕ)) → Rise low high puts → Rise low high takes → AreApartFrom (map number_of puts) (map number_of takes) → AreApart (map number_of puts ++ map number_of takes)
 keys_apart low high puts takes puts_rise takes_rise apart = from low puts puts_rise apart
   where
@@ -127,6 +135,7 @@ placed_length places [] (event ∷ events) are = absurd are
 placed_length places (p ∷ pointers) [] are = absurd are
 placed_length places (p ∷ pointers) (event ∷ events) are = omega (arith, placed_length places pointers events are.1)
 
+-- no open transaction is empty, where each that is listed lists something
 pub open_some : (places : Places) (puts : List (ℕ × List Pointer)) (takes : List (ℕ × List ℕ)) (opened : List (ℕ × Entry)) → OpenPlaced places puts takes opened → AllByRecursion HasSome puts → AllByRecursion HasSome takes → AllByRecursion (λ o. IsNotEmpty o.1) opened
 open_some places (o ∷ puts) takes [] are some other = absurd are
 open_some places (o ∷ puts) takes ((txn, Puts events) ∷ opened) are some other = (omega (arith, some.0, placed_length places o.1 events are.1), open_some places puts takes opened are.2 some.1 other)
@@ -150,6 +159,7 @@ none_listed : {A : Type 0} (t : ℕ) (xs : List (ℕ × List A)) → is_among (m
 none_listed t [] isnt = refl
 none_listed t (x ∷ xs) isnt = let n = neither (x.0 == t) (is_among (map number_of xs) t) isnt in rw n.0 (none_listed t xs n.1)
 
+-- each transaction has what the checkpoint lists of it
 pub each_has : (places : Places) (puts : List (ℕ × List Pointer)) (takes : List (ℕ × List ℕ)) (opened : List (ℕ × Entry)) (t : ℕ) → OpenPlaced places puts takes opened → AllByRecursion HasSome puts → AllByRecursion HasSome takes
     → AreApart (map number_of puts ++ map number_of takes) → Has places (entry_of t opened) (listed_at t puts) (listed_at t takes)
 each_has places (o ∷ puts) takes [] t are some other apart = absurd are
@@ -180,6 +190,7 @@ takes_listed places (Some (Takes taken)) pointers numbers has = has.0
 
 -- taken numbers
 
+-- a number taken by one transaction is among all that are taken
 pub listed_among : (t n : ℕ) (takes : List (ℕ × List ℕ)) → is_among (listed_at t takes) n ≡ true → is_among (all_of takes) n ≡ true
 listed_among t n [] is = absurd (cc)
 listed_among t n (o ∷ takes) is = from (o.0 == t) is (listed_among t n takes)
@@ -208,6 +219,7 @@ some_takes n (o ∷ takes) apart is = from (either_or (is_among o.1 n) (is_among
     from (inl here) rest = (o.0, first_so (o.0 == o.0) (is_among (map number_of takes) o.0) (same_test o.0), rw (same_test o.0) here)
     from (inr there) rest = further (rest there)
 
+-- a number that stands once among others is one of them
 pub once_there : (others numbers : List ℕ) (n : ℕ) → AreOnceAmong others numbers → is_among numbers n ≡ true → is_among others n ≡ true
 once_there others [] n once is = absurd (cc)
 once_there others (x ∷ numbers) n once is = from (eqb_tells x n) (either_or (x == n) (is_among numbers n) is) (once_there others numbers n once.2)
@@ -221,6 +233,7 @@ once_apart : (others numbers : List ℕ) → AreOnceAmong others numbers → Are
 once_apart others [] once = tt
 once_apart others (n ∷ numbers) once = (once.1, once_apart others numbers once.2)
 
+-- numbers that each stand once among others are apart
 pub all_apart : (others : List ℕ) (takes : List (ℕ × List ℕ)) → AreOnceAmong others (all_of takes) → AreApart (all_of takes)
 all_apart others takes once = once_apart others (all_of takes) once
 
@@ -241,6 +254,7 @@ apart_both (x ∷ a) b n apart first second = from (eqb_tells x n) (either_or (x
     from (inr other) (inl here) rest = differ (sym here ∙ other.0)
     from (inr other) (inr there) rest = rest there
 
+-- those that one transaction takes are apart, where all are
 pub listed_apart : (t : ℕ) (takes : List (ℕ × List ℕ)) → AreApart (all_of takes) → AreApart (listed_at t takes)
 listed_apart t [] apart = tt
 listed_apart t (o ∷ takes) apart = from (o.0 == t) (listed_apart t takes (apart_back o.1 (all_of takes) apart))

@@ -38,12 +38,14 @@ own_file told place t found is l = by_file (t.reads (Log place.file)) refl l.the
     by_file None same from = absurd from
     by_file (Some bytes) same from = record { bytes = bytes; has = record { tells = t; is = is; reads = same }; from = from }
 
+-- all lines from a place on are applied, where those of its file and of the others are
 pub all_go : (told : Option Told) (place : Place) (old mid new : Indexing) → WhereFrom told place.file place.at (λ own. GoesThrough own old mid) → WhereBehind told place.file (λ logs. GoesThrough (lines logs) mid new)
     → WhereLines told place (λ found. GoesThrough found old new)
 all_go told place old mid new first rest t is found l =
     let o = own_file told place t found is l in
     subst (λ (x : List Line). GoesThrough x old new) (sym l.lines_are) (applies_append l.own (lines l.logs) old mid new (first o.bytes l.own o.has o.from) (rest t is l.logs l.behind))
 
+-- a fault in the place's own file is the first fault
 pub own_bad : (told : Option Told) (place : Place) (old : Indexing) (e : ReplayRefused) → WhereBadLog e (λ f a. WhereFrom told place.file place.at (λ own. StopsIn own old f a))
     → WhereBadLog e (λ f a. WhereLines told place (λ found. StopsIn found old f a))
 own_bad told place old e bad =
@@ -53,17 +55,20 @@ own_bad told place old e bad =
     subst (λ (x : List Line). StopsIn x old f a) (sym l.lines_are) (stops_front l.own (lines l.logs) old f a (stops o.bytes l.own o.has o.from)))
     bad
 
+-- a fault in a later file is the first one, where the place's own file had none
 pub behind_bad : (told : Option Told) (place : Place) (old mid : Indexing) (f a : ℕ) → WhereFrom told place.file place.at (λ own. GoesThrough own old mid)
     → WhereBehind told place.file (λ logs. StopsIn (lines logs) mid f a) → WhereLines told place (λ found. StopsIn found old f a)
 behind_bad told place old mid f a first stops t is found l =
     let o = own_file told place t found is l in
     subst (λ (x : List Line). StopsIn x old f a) (sym l.lines_are) (stops_behind l.own (lines l.logs) old mid f a (first o.bytes l.own o.has o.from) (stops t is l.logs l.behind))
 
+-- its own file counts no more steps than all lines have records
 pub own_few : (told : Option Told) (place : Place) (none steps : ℕ) → WhereFrom told place.file place.at (λ own. steps ≤ none + record_count own) → WhereLines told place (λ found. steps ≤ none + record_count found)
 own_few told place none steps first t is found l =
     let o = own_file told place t found is l in
     omega (arith, first o.bytes l.own o.has o.from, ap record_count l.lines_are, record_count-append l.own (lines l.logs))
 
+-- all files together count no more steps than all lines have records
 pub all_few : (told : Option Told) (place : Place) (none mid steps : ℕ) → WhereFrom told place.file place.at (λ own. mid ≤ none + record_count own) → WhereBehind told place.file (λ logs. steps ≤ mid + record_count (lines logs))
     → WhereLines told place (λ found. steps ≤ none + record_count found)
 all_few told place none mid steps first rest t is found l =

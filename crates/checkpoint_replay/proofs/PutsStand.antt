@@ -38,6 +38,7 @@ puts-append (Stands file at (CommitTake txn count) ∷ a) b = puts-append a b
 puts-append (Stands file at (End count) ∷ a) b = puts-append a b
 puts-append (Faulty file at ∷ a) b = puts-append a b
 
+-- what is placed in two lists of places is placed in one of them
 pub in_either : (a b : Places) (p : Pointer) (event : Content) → IsPlaced (a ++ b) p event → IsPlaced a p event ⊎ IsPlaced b p event
 in_either [] b p event is = inr is
 in_either (k ∷ a) b p event (inl same) = inl (inl same)
@@ -137,6 +138,7 @@ module _ (number : ℕ) (p : Pointer) (event : Content) where
           subst (λ (l : List ℕ). StandsHere number l p event) next_is
           (more (subst (λ (n : ℕ). IsPlaced (puts_of (record_lines number (frame_items n frames))) p event) (sym next_at) there))
 
+  -- the PUTs of frames stand in the file's bytes after what is in front of them
   pub frames_stand : (frames : List (List Rec)) (front rest : List ℕ) → AllByRecursion IsFrame frames → IsPlaced (puts_of (record_lines number (frame_items (length front) frames))) p event → StandsHere number (front ++ (opened frames ++ rest)) p event
   frames_stand [] front rest framed is = absurd is
   frames_stand (frame ∷ frames) front rest framed is = frame_stands frame frames front rest framed.0 (λ there. frames_stand frames ((front ++ 1 ∷ []) ++ frame_bytes frame) rest framed.1 there) is
@@ -239,5 +241,6 @@ from_place files place found p event within l is = either (in_lines l.own (lines
     either (inl there) = in_own (files (Log place.file)) refl within l.there there
     either (inr there) = logs_stand files (place.file + 1) (2 ^ 32) l.logs p event l.behind there
 
+-- the PUTs of all lines of a folder stand in its log files
 pub from_front : (files : Files) (found : List Line) (p : Pointer) (event : Content) → AllLines files found → IsPlaced (puts_of found) p event → PutIn files p event
 from_front files found p event all is = logs_stand files 0 (2 ^ 32) all.logs p event all.are (subst (λ (x : List Line). IsPlaced (puts_of x) p event) all.lines_are is)

@@ -28,6 +28,7 @@ module _ {Y Z : Type 0} where
       elim (is_eq (key_cmp key (string_bytes e.0))) as (λ b. cond b (Some (string_bytes e.1)) (value_of (pairs_bytes es) key) ≡ option_map string_bytes (cond b (Some e.1) (lookup (λ k. is_eq (key_cmp key (string_bytes k))) es)))
       [ true ↦ refl | false ↦ value_of-pairs es key ]
 
+  -- putting a text into a map puts a header among its bytes
   pub with_header-pairs : (es : List (String Y × String Z)) (k : String Y) (v : String Z) → pairs_bytes (insert_entry string_cmp es k v) ≡ with_header (pairs_bytes es) (string_bytes k) (string_bytes v)
   with_header-pairs [] k v = refl
   with_header-pairs (e ∷ es) k v =
@@ -35,6 +36,7 @@ module _ {Y Z : Type 0} where
       ≡ match_ordering o ((string_bytes k, string_bytes v) ∷ pairs_bytes (e ∷ es)) ((string_bytes e.0, string_bytes v) ∷ pairs_bytes es) (pair_bytes e ∷ with_header (pairs_bytes es) (string_bytes k) (string_bytes v)))
       [ Less ↦ refl | Equal ↦ refl | Greater ↦ ap (λ hs. pair_bytes e ∷ hs) (with_header-pairs es k v) ]
 
+  -- removing a text from a map removes the header of its key
   pub without_header-pairs : (es : List (String Y × String Z)) (key : List ℕ) → pairs_bytes (remove_entry (λ k. is_eq (key_cmp key (string_bytes k))) es) ≡ without_header (pairs_bytes es) key
   without_header-pairs [] key = refl
   without_header-pairs (e ∷ es) key =
@@ -76,6 +78,7 @@ same_key a b h = (bytes_eq-Decides a b).0 (sym (is_eq-slice_cmp a b) ∙ ap is_e
 apart_Less : Less ≡ Equal → ⊥
 apart_Less h = cc
 
+-- an order that is told to be equal is equal
 pub is_eq-Equal : (o : Ordering) → is_eq o ≡ true → o ≡ Equal
 is_eq-Equal Less h = cc
 is_eq-Equal Equal h = refl
@@ -125,11 +128,14 @@ headers_size-without (e ∷ hs) k w h =
     cases refl h
 
 module _ {Y Z : Type 0} where
+  -- how long all headers are with a text under a new key
   pub size-insert_new : (es : List (String Y × String Z)) (k : String Y) (v : String Z) → lookup (is_at (string_cmp k)) es ≡ None → headers_size (pairs_bytes (insert_entry string_cmp es k v)) ≡ headers_size (pairs_bytes es) + (length (string_bytes k) + length (string_bytes v) + 8)
   size-insert_new es k v h = ap headers_size (with_header-pairs es k v) ∙ headers_size-with_new (pairs_bytes es) (string_bytes k) (string_bytes v) (value_of-pairs es (string_bytes k) ∙ ap (option_map string_bytes) h)
 
+  -- how long all headers are where a key's text was replaced
   pub size-insert_old : (es : List (String Y × String Z)) (k : String Y) (v w : String Z) → IsStrictlySortedBy string_cmp (keys_of es) → lookup (is_at (string_cmp k)) es ≡ Some w → headers_size (pairs_bytes (insert_entry string_cmp es k v)) + length (string_bytes w) ≡ headers_size (pairs_bytes es) + length (string_bytes v)
   size-insert_old es k v w rising h = ap (λ hs. headers_size hs + length (string_bytes w)) (with_header-pairs es k v) ∙ headers_size-with_old (pairs_bytes es) (string_bytes k) (string_bytes v) (string_bytes w) (AreHeaders-pairs es rising).rising (value_of-pairs es (string_bytes k) ∙ ap (option_map string_bytes) h)
 
+  -- how long all headers are where a key's text was removed
   pub size-remove : (es : List (String Y × String Z)) (key : List ℕ) (w : String Z) → lookup (λ k. is_eq (key_cmp key (string_bytes k))) es ≡ Some w → headers_size (pairs_bytes (remove_entry (λ k. is_eq (key_cmp key (string_bytes k))) es)) + (length key + length (string_bytes w) + 8) ≡ headers_size (pairs_bytes es)
   size-remove es key w h = ap (λ hs. headers_size hs + (length key + length (string_bytes w) + 8)) (without_header-pairs es key) ∙ headers_size-without (pairs_bytes es) key (string_bytes w) (value_of-pairs es key ∙ ap (option_map string_bytes) h)

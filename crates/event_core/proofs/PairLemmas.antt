@@ -102,6 +102,7 @@ none_of : (o : Option (List ℕ)) → is_some o ≡ false → o ≡ None
 none_of None h = refl
 none_of (Some x) h = cc
 
+-- no pairs make no headers
 pub HoldsPairs-nil : HoldsPairs [] []
 HoldsPairs-nil = record { same = IsPermutation-refl []; distinct = λ i j d below within. absurd (omega (arith, within)); known = λ key. refl }
 
@@ -136,6 +137,7 @@ first_repeat ps hs i p holds within is known =
       first = subst HaveDistinctKeys (sym before) holds.distinct;
     }
 
+-- a value is there exactly where its copy is
 pub is_some-copied : {X : Type 0} (o : Option (Bor X)) → is_some (option_copied o) ≡ is_some o
 is_some-copied None = refl
 is_some-copied (Some x) = refl

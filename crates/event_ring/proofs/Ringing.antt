@@ -16,10 +16,12 @@ Tells a b = ((a == b) ≡ true) × (a ≡ b) ⊎ ((a == b) ≡ false) × (a ≢ 
 
 -- numbers rise
 
+-- numbers that rise from one on rise also from a lower one
 pub rises_low : (low less : ℕ) (slots : List Slot) (top : ℕ) → less ≤ low → Rises low slots top → Rises less slots top
 rises_low low less [] top le rises = omega (arith, le, rises)
 rises_low low less (s ∷ slots) top le rises = (omega (arith, le, rises.0), rises.1)
 
+-- the number where the slots start is not above where they end
 pub rises_within : (low : ℕ) (slots : List Slot) (top : ℕ) → Rises low slots top → low ≤ top
 rises_within low [] top rises = rises
 rises_within low (s ∷ slots) top rises = omega (arith, rises.0, rises_within (s.number + 1) slots top rises.1)
@@ -29,6 +31,7 @@ rises_above low [] top j b rises is = absurd (cc)
 rises_above low (s ∷ slots) top zero b rises is = let same : s ≡ b = cc in omega (arith, rises.0, ap (λ (x : Slot). x.number) same)
 rises_above low (s ∷ slots) top (suc j) b rises is = omega (arith, rises.0, rises_above (s.number + 1) slots top j b rises.1 is)
 
+-- a slot further back has a greater number
 pub rises_pair : (low : ℕ) (slots : List Slot) (top i j : ℕ) (a b : Slot) → Rises low slots top → i < j → slice_get slots i ≡ Some a → slice_get slots j ≡ Some b → a.number < b.number
 rises_pair low [] top i j a b rises less is there = absurd (cc)
 rises_pair low (s ∷ slots) top zero zero a b rises less is there = absurd (omega (arith, less))
@@ -37,10 +40,12 @@ rises_pair low (s ∷ slots) top zero (suc j) a b rises less is there =
 rises_pair low (s ∷ slots) top (suc i) zero a b rises less is there = absurd (omega (arith, less))
 rises_pair low (s ∷ slots) top (suc i) (suc j) a b rises less is there = rises_pair (s.number + 1) slots top i j a b rises.1 (omega (arith, less)) is there
 
+-- a slot with a number above all others may go to the end
 pub rises_push : (low : ℕ) (slots : List Slot) (top : ℕ) (s : Slot) → Rises low slots top → top ≤ s.number → Rises low (slots ++ s ∷ []) (s.number + 1)
 rises_push low [] top s rises above = (omega (arith, rises, above), omega arith)
 rises_push low (x ∷ slots) top s rises above = (rises.0, rises_push (x.number + 1) slots top s rises.1 above)
 
+-- a slot that changes but keeps its number leaves the numbers rising
 pub rises_set : (low : ℕ) (slots : List Slot) (top place : ℕ) (old new : Slot) → Rises low slots top → slice_get slots place ≡ Some old → new.number ≡ old.number → Rises low (slice_set slots place new) top
 rises_set low [] top place old new rises is same = absurd (cc)
 rises_set low (s ∷ slots) top zero old new rises is same =
@@ -49,6 +54,7 @@ rises_set low (s ∷ slots) top zero old new rises is same =
     (omega (arith, rises.0, number), subst (λ (n : ℕ). Rises (n + 1) slots top) number rises.1)
 rises_set low (s ∷ slots) top (suc place) old new rises is same = (rises.0, rises_set (s.number + 1) slots top place old new rises.1 is same)
 
+-- numbers still rise without the first slots
 pub rises_drop : (low : ℕ) (slots : List Slot) (top k : ℕ) → Rises low slots top → Rises low (drop k slots) top
 rises_drop low slots top zero rises = rises
 rises_drop low [] top (suc k) rises = rises
@@ -56,6 +62,7 @@ rises_drop low (s ∷ slots) top (suc k) rises = rises_low (s.number + 1) low (d
 
 -- gaps
 
+-- closing the gaps of two runs of slots closes those of each
 pub closed-append : (a b : List Slot) → closed (a ++ b) ≡ closed a ++ closed b
 closed-append [] b = refl
 closed-append (s ∷ a) b = by_test (is_gone s.state) (closed-append a b)
@@ -64,6 +71,7 @@ closed-append (s ∷ a) b = by_test (is_gone s.state) (closed-append a b)
     by_test true rest = rest
     by_test false rest = ap (λ (l : List Slot). s ∷ l) rest
 
+-- what is left by two runs of slots is what each leaves
 pub live-append : (a b : List Slot) → live_of (a ++ b) ≡ live_of a ++ live_of b
 live-append [] b = refl
 live-append (s ∷ a) b = by_test (is_gone s.state) (live-append a b)
@@ -72,6 +80,7 @@ live-append (s ∷ a) b = by_test (is_gone s.state) (live-append a b)
     by_test true rest = rest
     by_test false rest = ap (λ (l : List Left). left_of s ∷ l) rest
 
+-- closing the gaps changes nothing of what is left
 pub live_closed : (slots : List Slot) → live_of (closed slots) ≡ live_of slots
 live_closed [] = refl
 live_closed (s ∷ slots) = by_test (is_gone s.state) refl (live_closed slots)
@@ -80,6 +89,7 @@ live_closed (s ∷ slots) = by_test (is_gone s.state) refl (live_closed slots)
     by_test true is rest = rest
     by_test false is rest = rw is (ap (λ (l : List Left). left_of s ∷ l) rest)
 
+-- without the gaps there are as many slots as events left
 pub length_closed : (slots : List Slot) → length (closed slots) ≡ length (live_of slots)
 length_closed [] = refl
 length_closed (s ∷ slots) = by_test (is_gone s.state) (length_closed slots)
@@ -88,6 +98,7 @@ length_closed (s ∷ slots) = by_test (is_gone s.state) (length_closed slots)
     by_test true rest = rest
     by_test false rest = ap suc rest
 
+-- numbers still rise without the gaps
 pub rises_closed : (low : ℕ) (slots : List Slot) (top : ℕ) → Rises low slots top → Rises low (closed slots) top
 rises_closed low [] top rises = rises
 rises_closed low (s ∷ slots) top rises = by_test (is_gone s.state) (rises_closed (s.number + 1) slots top rises.1)
@@ -96,6 +107,7 @@ rises_closed low (s ∷ slots) top rises = by_test (is_gone s.state) (rises_clos
     by_test true rest = rises_low (s.number + 1) low (closed slots) top (omega (arith, rises.0)) rest
     by_test false rest = (rises.0, rest)
 
+-- a gap in front can go, and what is left stays
 pub first_gap : (slots : List Slot) (s : Slot) → slice_get slots 0 ≡ Some s → is_gone s.state ≡ true → live_of (drop 1 slots) ≡ live_of slots
 first_gap [] s is gone = absurd (cc)
 first_gap (x ∷ slots) s is gone =
@@ -140,6 +152,7 @@ in_range [] place s is = absurd (cc)
 in_range (x ∷ slots) zero s is = omega arith
 in_range (x ∷ slots) (suc place) s is = omega (arith, in_range slots place s is)
 
+-- a place has one slot only
 pub one_item : (slots : List Slot) (place : ℕ) (a b : Slot) → slice_get slots place ≡ Some a → slice_get slots place ≡ Some b → a ≡ b
 one_item slots place a b first second = let same : Some a ≡ Some b = sym first ∙ second in cc
 
@@ -190,6 +203,7 @@ pub record Changes (old new : Slot) : Type 0 where
 left_changed : (old new : Slot) → Changes old new → left_of new ≡ record (left_of old) { held = is_held new.state }
 left_changed old new changes = rw (changes.number, changes.at, changes.file, changes.long) refl
 
+-- a slot that is held or freed marks its event alone
 pub set_marks : (low : ℕ) (slots : List Slot) (top place number : ℕ) (old new : Slot) → Rises low slots top → Stands slots number place old → Changes old new → is_gone new.state ≡ false
     → live_of (slice_set slots place new) ≡ marked number (is_held new.state) (live_of slots)
 set_marks low [] top place number old new rises stands changes lives = (let is : None ≡ Some old = stands.item in absurd (cc))
@@ -228,6 +242,7 @@ lasting_none low number (s ∷ slots) top rises less = by_test (is_gone s.state)
     by_test false rest (inl same) = absurd (omega (arith, less, rises.0, same.1))
     by_test false rest (inr other) = rw (other.0, rest) refl
 
+-- a slot that becomes a gap takes its event away, and one event fewer is left
 pub set_gone : (low : ℕ) (slots : List Slot) (top place number : ℕ) (old new : Slot) → Rises low slots top → Stands slots number place old → is_gone new.state ≡ true
     → (live_of (slice_set slots place new) ≡ lasting number (live_of slots)) × (length (live_of (slice_set slots place new)) + 1 ≡ length (live_of slots))
 set_gone low [] top place number old new rises stands gone = (let is : None ≡ Some old = stands.item in absurd (cc))
@@ -257,6 +272,7 @@ set_gone low (s ∷ slots) top (suc place) number old new rises stands gone =
 
 -- no slot before a place is free
 
+-- a slot that changes to one that is not free leaves none free before the place
 pub busy_set : (slots : List Slot) (from place : ℕ) (new : Slot) → AllByRecursion IsBusy (take from slots) → IsBusy new → AllByRecursion IsBusy (take from (slice_set slots place new))
 busy_set [] from place new all busy = all
 busy_set (s ∷ slots) zero zero new all busy = tt
@@ -264,6 +280,7 @@ busy_set (s ∷ slots) zero (suc place) new all busy = tt
 busy_set (s ∷ slots) (suc from) zero new all busy = (busy, all.1)
 busy_set (s ∷ slots) (suc from) (suc place) new all busy = (all.0, busy_set slots from place new all.1 busy)
 
+-- whatever a slot becomes, none before it and before the place is free
 pub busy_before : (slots : List Slot) (from place : ℕ) (new : Slot) → AllByRecursion IsBusy (take from slots) → AllByRecursion IsBusy (take (min from place) (slice_set slots place new))
 busy_before [] from place new all = none (min from place)
   where
@@ -277,6 +294,7 @@ busy_before (s ∷ slots) (suc from) (suc place) new all =
     let more : min (suc from) (suc place) ≡ suc (min from place) = omega arith in
     rw more (all.0, busy_before slots from place new all.1)
 
+-- without the first slots still none is free before the place, which moves along
 pub busy_drop : (slots : List Slot) (from k : ℕ) → AllByRecursion IsBusy (take from slots) → AllByRecursion IsBusy (take (from - k) (drop k slots))
 busy_drop slots from zero all = let same : from - 0 ≡ from = omega arith in rw same all
 busy_drop [] from (suc k) all = none (from - suc k)
@@ -287,6 +305,7 @@ busy_drop [] from (suc k) all = none (from - suc k)
 busy_drop (s ∷ slots) zero (suc k) all = let none : 0 - suc k ≡ 0 = omega arith in rw none tt
 busy_drop (s ∷ slots) (suc from) (suc k) all = let same : suc from - suc k ≡ from - k = omega arith in rw same (busy_drop slots from k all.1)
 
+-- a slot that is not free lets the place move behind it
 pub busy_more : (slots : List Slot) (place : ℕ) (s : Slot) → AllByRecursion IsBusy (take place slots) → slice_get slots place ≡ Some s → IsBusy s → AllByRecursion IsBusy (take (place + 1) slots)
 busy_more [] place s all is busy = absurd (cc)
 busy_more (x ∷ slots) zero s all is busy = let same : x ≡ s = cc in (subst (λ (y : Slot). IsBusy y) (sym same) busy, tt)
@@ -302,6 +321,7 @@ held_of_busy s busy lives = from s.state refl
     from Held is = ap is_held is
     from Gone is = absurd (let e : true ≡ false = sym (ap is_gone is) ∙ lives in cc)
 
+-- where no slot is free, no event is
 pub none_free : (slots : List Slot) → AllByRecursion IsBusy slots → first_free (live_of slots) ≡ None
 none_free [] all = refl
 none_free (s ∷ slots) all = by_test (is_gone s.state) refl (none_free slots all.1)
@@ -310,6 +330,7 @@ none_free (s ∷ slots) all = by_test (is_gone s.state) refl (none_free slots al
     by_test true is rest = rest
     by_test false is rest = rw (held_of_busy s all.0 is) rest
 
+-- the first slot that is free has the first free event
 pub one_free : (slots : List Slot) (place : ℕ) (s : Slot) → AllByRecursion IsBusy (take place slots) → slice_get slots place ≡ Some s → s.state ≡ Free → first_free (live_of slots) ≡ Some s.number
 one_free [] place s all is free = absurd (cc)
 one_free (x ∷ slots) zero s all is free =
@@ -341,6 +362,7 @@ pub record Seen (slots : List Slot) (number place : ℕ) (found : Option (Pointe
   pub other : (s : Slot) → slice_get slots place ≡ Some s → s.number ≢ number → found ≡ None
   pub end : length slots ≤ place → found ≡ None
 
+-- what a look-up by number finds is what stands at its place
 pub look_seen : (low number : ℕ) (slots : List Slot) (top place : ℕ) → Rises low slots top → IsFront slots number place → Seen slots number place (look_at number (live_of slots))
 look_seen low number [] top place rises front = record { some = λ s is same lives. absurd (cc); gap = λ s is same gone. refl; other = λ s is other. refl; end = λ past. refl }
 look_seen low number (x ∷ slots) top zero rises front = record {
@@ -393,12 +415,15 @@ look_place number (l ∷ live) = by_test (l.number == number) (look_place number
 abbrev pub with_state : Slot → State → Slot
 with_state s state = record { number = s.number; at = s.at; file = s.file; length = s.length; state = state }
 
+-- a slot with another state is otherwise the same
 pub changed : (s : Slot) (state : State) → Changes s (with_state s state)
 changed s state = record { number = refl; at = refl; file = refl; long = refl }
 
+-- an event that is left has a place among the slots
 pub live_at : (slots : List Slot) (top number place : ℕ) → Rises 0 slots top → IsLive (live_of slots) number → IsFront slots number place → place < length slots
 live_at slots top number place rises live front = let s = found_live slots number place 0 top rises live front in in_range slots place s.0 s.1.item
 
+-- the slot at the place of an event's number is that event's
 pub stands_at : (slots : List Slot) (top number place : ℕ) (s : Slot) → Rises 0 slots top → IsLive (live_of slots) number → IsFront slots number place → slice_get slots place ≡ Some s → Stands slots number place s
 stands_at slots top number place s rises live front is =
     let found = found_live slots number place 0 top rises live front in
@@ -413,6 +438,7 @@ pub record Marks (slots : List Slot) (top live number place : ℕ) (s : Slot) (s
   pub counted : live ≡ length (live_of (slice_set slots place (with_state s state)))
   pub live_is : live_of (slice_set slots place (with_state s state)) ≡ marked number (is_held state) (live_of slots)
 
+-- an event that is held or freed in its slot leaves numbers rising, counts right and the others alone
 pub marks : (slots : List Slot) (top live from number place : ℕ) (s : Slot) (state : State) → IsRing slots top live from → IsLive (live_of slots) number → IsFront slots number place → slice_get slots place ≡ Some s → is_gone state ≡ false
     → Marks slots top live number place s state
 marks slots top live from number place s state ring lives front is kept =
@@ -424,11 +450,13 @@ marks slots top live from number place s state ring lives front is kept =
       live_is = there;
     }
 
+-- two indexes alike in all their parts are the same
 pub index_same : (s s' t t' : ℕ) (l l' : List Left) → s ≡ s' → t ≡ t' → l ≡ l' → (let i : Index = record { slots = s; top = t; live = l } in i) ≡ record { slots = s'; top = t'; live = l' }
 index_same s s' t t' l l' slots top live = rw (slots, top, live) refl
 
 -- a search
 
+-- slots before one with a smaller number have smaller numbers
 pub before_mid : (slots : List Slot) (low top mid k number : ℕ) (s m : Slot) → Rises low slots top → slice_get slots mid ≡ Some m → m.number < number → k < mid + 1 → slice_get slots k ≡ Some s → s.number < number
 before_mid slots low top mid k number s m rises there less within is = from (grind arith)
   where
@@ -438,6 +466,7 @@ before_mid slots low top mid k number s m rises there less within is = from (gri
         let one : s ≡ m = one_item slots mid s m (subst (λ (i : ℕ). slice_get slots i ≡ Some s) same is) there in
         omega (arith, ap (λ (x : Slot). x.number) one, less)
 
+-- slots behind one with a number that is not smaller have none smaller
 pub behind_mid : (slots : List Slot) (low top mid k number : ℕ) (s m : Slot) → Rises low slots top → slice_get slots mid ≡ Some m → number ≤ m.number → mid ≤ k → slice_get slots k ≡ Some s → number ≤ s.number
 behind_mid slots low top mid k number s m rises there more within is = from (grind arith)
   where
@@ -465,6 +494,7 @@ pub record Closes (old now : List Slot) (to place : ℕ) : Type 0 where
   pub front : take to now ≡ closed (take place old)
   pub rest : drop place now ≡ drop place old
 
+-- closing the gaps goes one slot further
 pub close_step : (old now new : List Slot) (to next place : ℕ) (s : Slot) → Closes old now to place → slice_get now place ≡ Some s
     → (is_gone s.state ≡ true → (new ≡ now) × (next ≡ to)) → (is_gone s.state ≡ false → (new ≡ slice_set now to s) × (next ≡ to + 1)) → Closes old new next (place + 1)
 close_step old now new to next place s so is gap kept = from (is_gone s.state) refl
@@ -501,15 +531,18 @@ close_step old now new to next place s so is gap kept = from (is_gone s.state) r
 
 -- a push
 
+-- a free slot at the end adds its event at the end
 pub push_live : (slots : List Slot) (s : Slot) → s.state ≡ Free → live_of (slots ++ s ∷ []) ≡ live_of slots ++ left_of s ∷ []
 push_live slots s free = live-append slots (s ∷ []) ∙ (let lives : is_gone s.state ≡ false = ap is_gone free in rw lives refl)
 
+-- a slot at the end does not change that none before the place is free
 pub push_busy : (slots : List Slot) (s : Slot) (from : ℕ) → from ≤ length slots → AllByRecursion IsBusy (take from slots) → AllByRecursion IsBusy (take from (slots ++ s ∷ []))
 push_busy [] s zero within all = tt
 push_busy [] s (suc from) within all = absurd (omega (arith, within))
 push_busy (x ∷ slots) s zero within all = tt
 push_busy (x ∷ slots) s (suc from) within all = (all.0, push_busy slots s from (omega (arith, within)) all.1)
 
+-- the lesser of two places lies within the slots
 pub min_within : (slots : List Slot) (from place : ℕ) (new : Slot) → from ≤ length slots → min from place ≤ length (slice_set slots place new)
 min_within slots from place new within = omega (arith, length-set slots place new, within)
 
@@ -522,6 +555,7 @@ pub record Goes (slots : List Slot) (top live from number place : ℕ) (s : Slot
   pub within : from - k ≤ length (drop k (slice_set slots place (with_state s Gone)))
   pub busy : AllByRecursion IsBusy (take (from - k) (drop k (slice_set slots place (with_state s Gone))))
 
+-- an event that is gone leaves numbers rising, counts right and no free slot before the place
 pub goes : (slots : List Slot) (top live from number place : ℕ) (s : Slot) (k : ℕ) → IsRing slots top live from → IsLive (live_of slots) number → IsFront slots number place → slice_get slots place ≡ Some s → Goes slots top live from number place s k
 goes slots top live from number place s k ring lives front is =
     let stands = stands_at slots top number place s ring.rises lives front is in
@@ -550,6 +584,7 @@ passes low x slots (inl less) = by_test (is_gone x.state)
     by_test true = refl
     by_test false = rw (test (leb_tells low x.number)) refl
 
+-- the first event from a number on stands at the first slot that is no gap and not below it
 pub next_found : (low r : ℕ) (slots : List Slot) (s : Slot) → ((k : ℕ) (x : Slot) → k < r → slice_get slots k ≡ Some x → (x.number < low) ⊎ (is_gone x.state ≡ true))
     → slice_get slots r ≡ Some s → low ≤ s.number → is_gone s.state ≡ false → next_from low (live_of slots) ≡ Some (s.number, (left_of s).pointer)
 next_found low r [] s before is above lives = absurd (cc)
@@ -566,6 +601,7 @@ next_found low (suc r) (x ∷ slots) s before is above lives =
     passes low x slots (before zero x (omega arith) refl)
     ∙ next_found low r slots s (λ k y less is. before (suc k) y (omega (arith, less)) is) is above lives
 
+-- where all slots are below the number or gaps, there is no event from it on
 pub next_none : (low : ℕ) (slots : List Slot) → ((k : ℕ) (x : Slot) → slice_get slots k ≡ Some x → (x.number < low) ⊎ (is_gone x.state ≡ true)) → next_from low (live_of slots) ≡ None
 next_none low [] each = refl
 next_none low (x ∷ slots) each = passes low x slots (each zero x refl) ∙ next_none low slots (λ k y is. each (suc k) y is)

@@ -66,6 +66,7 @@ SameChecks t u = (n : ℕ) → u.now (Check n) ≡ t.now (Check n)
 abbrev grows_alone : (told told' : Option Told) (w w' : Writer) → ((u : Told) → told' ≡ Some u → (t : Told) × (told ≡ Some t) × (Grows t u w w' × SameChecks t u)) → (u : Told) → told' ≡ Some u → (t : Told) × (told ≡ Some t) × Grows t u w w'
 grows_alone told told' w w' grew u is = let was = grew u is in (was.0, was.1, was.2.0)
 
+-- a disk that shows its contents after a flush did so before, and each checkpoint is left as it was
 pub flush_grows : (told told' : Option Told) (w w' : Writer) (s : State) → Waits told w s
     → ((birth : ℕ) (frames : List (List Rec)) (records : List Rec) → IsReady told birth w.file w.gate frames → IsPending w records → 1 ≤ length records → Tells told told' (Changes (Log w.file) (LacksOrHas birth w.file frames records) 2))
     → ((birth : ℕ) (frames : List (List Rec)) (records : List Rec) → IsReady told birth w.file w.gate frames → IsPending w records → 1 ≤ length records → IsReady told' birth w.file w'.gate (frames ++ records ∷ []))
@@ -92,6 +93,7 @@ flush_file told told' w w' moved same = from (some_or_none w.count)
     from (inl nothing) = omega (arith, ap (λ (v : Writer). v.file) (same nothing).0)
     from (inr some) = omega (arith, ap (λ (v : Writer). v.file) (moved some))
 
+-- places and log fit what is settled after a flush
 pub settle_fits : (told told' : Option Told) (old new : Logged) (s : State) (is : IsStateOf told old s) (still : s.broken ≡ false) → ((u : Told) → told' ≡ Some u → (t : Told) × (told ≡ Some t) × (Grows t u old.log new.log × SameChecks t u)) → old.log.file ≤ new.log.file
     → ((known : Known) → Looks known known old.places s → Looks known known new.places (settle s)) → new.places.opened ≡ old.places.opened → new.log.bytes ≡ [] → IsLogged told' new.log new.busy (settle s) → Fits told' new (settle s)
 settle_fits told told' old new s is still grew more places same empty log = record {
@@ -130,6 +132,7 @@ flushed_both (Some t) (Some u) s still images writes = record { whole = still; i
 settled_may : (s : State) (image : Files) → RecoversSettled s image → MayRecover s image
 settled_may s image found = (found.0, found.1, inl found.2)
 
+-- what a crash leaves of settled events is also what a flush may leave
 pub goes_over : (told told' : Option Told) (s : State) → Tells told told' (λ t u. LeavesOnly t u (RecoversSettled s)) → Tells told told' (λ t u. LeavesOnly t u (MayRecover s))
 goes_over told told' s leaves =
     tells_more told told' (λ t u. LeavesOnly t u (RecoversSettled s)) (λ t u. LeavesOnly t u (MayRecover s)) (λ t u old new is. only_more t u (RecoversSettled s) (MayRecover s) (settled_may s) is) leaves
@@ -139,6 +142,7 @@ pub goes_then : (told mid told' : Option Told) (s : State) → Tells told mid (�
 goes_then told mid told' s first second =
     follows told mid told' (λ t u. LeavesOnly t u (MayRecover s)) (λ t u. LeavesOnly t u (MayRecover s)) (λ t u. LeavesOnly t u (MayRecover s)) (λ t u v old between new a b. joined t u v (MayRecover s) a b) (goes_over told mid s first) second
 
+-- what is said of an answer that is Ok may be used for what follows from it
 pub ok_then : {E : Type 0} (r : Result (Unit {0}) E) (A B : Type 0) → (A → B) → OnOk r A → OnOk r B
 ok_then (Ok done) A B maps is = maps is
 ok_then (Err e) A B maps is = tt

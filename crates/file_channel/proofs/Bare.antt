@@ -81,6 +81,7 @@ module _ (t : Told) (w : Writer) (folder : Files) (has : HasLog t w folder) (q :
   whole None n at = absurd (none (subst P (take-nil n) at))
   whole (Some bytes) n at = subst P (take-append-drop n bytes) (grows (take n bytes) (drop n bytes) at)
 
+  -- what holds of a log file's settled bytes holds of that file in whatever a crash leaves
   pub stands_there : P (settled_in t w q.file) → (q.file ≢ w.file → IsStill t q.file) → IsSomeAnd (folder (Log q.file)) P
   stands_there at still = from (eqb_tells q.file w.file)
     where
@@ -101,6 +102,7 @@ puts_known known [] (event ∷ events) look = tt
 puts_known known (p ∷ pointers) [] look = absurd look
 puts_known known (p ∷ pointers) (event ∷ events) look = ((event, look.0), puts_known known pointers events look.1)
 
+-- the PUTs of one open transaction point to events that are known
 pub open_known : (known : Known) (room : ℕ) (o : Option Open) (e : Option JournalEntry) → LooksOpen known room o e → AllByRecursion (λ q. (event : Content) × StandsIn known q event) (puts_in o)
 open_known known room None e look = tt
 open_known known room (Some o) None look = absurd look
@@ -111,6 +113,7 @@ open_known known room (Some o) (Some e) look = of_list o.listed e look.0
     of_list (Puts pointers) (entry.Takes taken) look = absurd look
     of_list (Takes numbers) e look = tt
 
+-- what follows from two claims of each element follows for the whole list
 pub both_maps : {A : Type 0} (P Q R : A → Type 0) (xs : List A) → ((x : A) → P x → Q x → R x) → AllByRecursion P xs → AllByRecursion Q xs → AllByRecursion R xs
 both_maps P Q R [] maps first second = tt
 both_maps P Q R (x ∷ xs) maps first second = (maps x first.0 second.0, both_maps P Q R xs maps first.1 second.1)
@@ -158,6 +161,7 @@ module _ (told : Option Told) (c : Logged) (s : State) (is : IsStateOf told c s)
         txn = (log.mirrors.high.0, fits);
       }
 
+  -- the start that the checkpoint describes has what the state has
   pub started_of : IsStartOf s (started s)
   started_of =
       let st = state_has_start is.settled is.known c.places s is.looks in
@@ -222,6 +226,7 @@ pub record ArePast (told' : Option Told) (c : Logged) (m : ℕ) (known : Known) 
   pub puts : (txn : ℕ) → AllByRecursion (λ (p : Pointer). m ≤ p.file) (pointers_at c.places.opened txn)
   pub needing : AreNeeding told' c.log.file (cut m known)
 
+-- after a checkpoint was laid, all places are in files from the least named one on
 pub are_past : (told told' : Option Told) (c : Logged) (s : State) (is : IsStateOf told c s) (still : s.broken ≡ false) (number : ℕ) (next : Next) (ring : Index) (table : Table) (text : CheckText) (start : Start) (may : MayLay told c.log c.busy number next ring table s text start) → Tells told told' (Changes (Check number) (IsLaying text) 3) → WhereTold told' (λ t. IsImage t.now t.reads)
     → (m : ℕ) → IsLeastNamed m text → ring.live ≡ c.places.live → table ≡ c.places.opened → ArePast told' c m is.known
 are_past told told' c s is still number next ring table text start may changes reads m named live opened = record {

@@ -77,6 +77,7 @@ parts_same : (t u : Told) → (u ≡ t) ⊎ DidPart Settle t u → AreSame t.rea
 parts_same t u (inl same) name = ap (λ (v : Told). v.reads name) same
 parts_same t u (inr part) name = part.others name refl
 
+-- of one whose first settle failed, which is counted as a fault
 pub refused_settle : (was now : Option Told) (e : Failed) (before later capacity : ℕ) → ReadsAreLeft was → Tells was now (Leads {T = Unit {0}} Settle (Err e)) → before ≤ later → Rose before later → IsRefused was now before later capacity causes.DiskFault
 refused_settle was now e before later capacity reads leads rises fault = record {
   why = λ t told. tt;
@@ -217,6 +218,7 @@ none_then None None P tells is = refl
 none_then None (Some u) P tells is = absurd tells
 none_then (Some t) new P tells is = absurd (cc)
 
+-- a folder that was replayed is begun with an empty log file, and its events stand in it
 pub begun_as : (was mid now : Option Told) (check : Option NewestCheck) (r : Replayed) (w : Writer) (number capacity most : ℕ) → Tells was mid SettledAs → WhereTold was (λ t. ReplaysTo t.reads check r) → IsReady capacity r → r.next.txn ≤ 2 ^ 64 - 1 → r.next.number < 2 ^ 64 → WhereTold mid (λ t. IsNextFile t.reads number) → Tells mid now (BeginsFile number)
     → writers.IsReady now 1 number 16 [] → w ≡ fresh_writer number most → IsBegunAs was now capacity most r w
 begun_as was mid now check r w number capacity most settles replays ready few low next begins begun writer = from was refl
@@ -316,6 +318,7 @@ module _ (was now : Option Told) (faults count : ℕ) (limits : Limits) (c : Fil
   abbrev start_as : Opening
   start_as = record { rules = record { kind = File; limits = limits }; base = opens.base; txn = opens.txn; faults = faults; from = moment_of was + 1; tells = is_some_of now }
 
+  -- its rules are those of a file channel within the limits
   pub opened_rules : (opened_as was faults now c).rules ≡ record { kind = File; limits = limits }
   opened_rules = ap (λ (n : Numbers). n.rules) opens.state.looks.numbers
 
@@ -324,9 +327,11 @@ module _ (was now : Option Told) (faults count : ℕ) (limits : Limits) (c : Fil
       let txn : c.logged.places.numbers.txn ≡ opens.txn = ap (λ (n : Numbers). n.txn) opens.state.looks.numbers in
       λ i. record { rules = opened_rules i; base = opens.seen i; txn = txn i; faults = faults; from = moment_of was + 1; tells = is_some_of now }
 
+  -- the folder opened to its base and its next transaction number
   pub opened_opens : WhereTold was (λ t. Opens t.reads limits.capacity (opened_as was faults now c).base (opened_as was faults now c).txn)
   opened_opens = subst (λ (o : Opening). WhereTold was (λ t. Opens t.reads limits.capacity o.base o.txn)) (sym opened_start) opens.opens
 
+  -- the channel stands for it before its first call
   pub opened_stands : c.tally ≡ record { put_attempts = 0; put_successes = 0; take_attempts = 0; take_successes = 0 } → c.waiting ≡ 0 → count ≡ faults → Tells was now OpensFrom → StandsOver now count c (opened_as was faults now c) []
   opened_stands none empty well from =
       subst (λ (o : Opening). StandsOver now count c o []) (sym opened_start)

@@ -42,6 +42,7 @@ pub put_list : (s : State) (o : Option (List Content)) (event : Content) → put
 put_list s None event may = absurd (cc)
 put_list s (Some events) event may = (events, refl)
 
+-- a take that may be made goes to takes
 pub take_list : (s : State) (o : Option (List ℕ)) → take_refusal s o ≡ None → (numbers : List ℕ) × (o ≡ Some numbers)
 take_list s None may = absurd (cc)
 take_list s (Some numbers) may = (numbers, refl)
@@ -54,6 +55,7 @@ pub record MayBePut (s : State) (token : Token) (event : Content) : Type 0 where
   pub still : s.broken ≡ false
   pub small : size event ≤ 1048576
 
+-- a put that nothing refuses may be made, and its event is small enough
 pub may_be_put : (told : Option Told) (c : Logged) (token : Token) (event : Content) (s : State) → IsStateOf told c s → put_refusal s (puts_of s token) event ≡ None → MayBePut s token event
 may_be_put told c token event s is may =
     let list = put_list s (puts_of s token) event may in
@@ -68,6 +70,7 @@ pub record MayBeTaken (s : State) (token : Token) : Type 0 where
   pub allowed : take_refusal s (Some numbers) ≡ None
   pub still : s.broken ≡ false
 
+-- a take that nothing refuses may be made in a channel that is not broken
 pub may_be_taken : (s : State) (token : Token) → take_refusal s (takes_of s token) ≡ None → MayBeTaken s token
 may_be_taken s token may =
     let list = take_list s (takes_of s token) may in
@@ -137,6 +140,7 @@ put_not s (Some events) event e of_call is =
     first_not s.broken PutNo.Broken full e (λ same. is_of_call PutNo.Broken e same of_call)
     (λ rest. first_not (nat_le s.rules.limits.txn_capacity (length events)) (PutNo.TxnFull (length events)) sized e (λ same. is_of_call (PutNo.TxnFull (length events)) e same of_call) (size_not s.rules.kind s event e of_call) rest) is
 
+-- the machine admits a put's refusal that its state gives
 pub put_refused : (s : State) (o : Option (List Content)) (event : Content) (e : PutRefused) → put_refusal s o event ≡ Some e → AdmitsPut s o event (Err e)
 put_refused s o event PutNo.Stale is = is
 put_refused s o event PutNo.Broken is = is
@@ -155,6 +159,7 @@ put_quietly s o event e is = (
   (λ same. put_not s o event PutNo.NoMemory tt (is ∙ ap (λ (x : PutRefused). Some x) same)),
 )
 
+-- a put that its state refuses leaves the channel as it was
 pub put_refuses : (told : Option Told) (old : Logged) (token : Token) (event : Content) (e : PutRefused) (s : State) → IsStateOf told old s → put_refusal s (puts_of s token) event ≡ Some e → Steps told told old old (Put token event (Err e)) s
 put_refuses told old token event e s is refused = record { admitted = put_refused s (puts_of s token) event e refused; stands = same e (put_refused s (puts_of s token) event e refused); waits = refl }
   where
@@ -219,10 +224,12 @@ pub take_unread : (told told' : Option Told) (old new : Logged) (token : Token) 
     → Steps told told' old new (Take token (Err TakeNo.ReadFault)) s
 take_unread told told' old new token item rest s is may first after same = record { admitted = (may, is.whole.kind, some_first s item rest first); stands = after; waits = ap (λ (l : List ℕ). length l) same }
 
+-- a record was read as damaged, over a disk that does not show its contents
 pub take_damaged : (told told' : Option Told) (old new : Logged) (token : Token) (kept : ℕ) (found : Option ℕ) (item : ℕ × Content) (rest : List (ℕ × Content)) (s : State) → IsStateOf told old s → take_refusal s (takes_of s token) ≡ None → free s ≡ item ∷ rest → is_some_of told ≡ false → IsStateOf told' new s → new.log.bytes ≡ old.log.bytes
     → Steps told told' old new (Take token (Err (TakeNo.Damaged kept found))) s
 take_damaged told told' old new token kept found item rest s is may first silent after same = record { admitted = (may, is.whole.kind, silent, some_first s item rest first); stands = after; waits = ap (λ (l : List ℕ). length l) same }
 
+-- a take ran out of memory, and the channel stands for the same state
 pub take_no_memory : (told told' : Option Told) (old new : Logged) (token : Token) (s : State) → IsStateOf told' new s → new.log.bytes ≡ old.log.bytes → Steps told told' old new (Take token (Err TakeNo.NoMemory)) s
 take_no_memory told told' old new token s after same = record { admitted = tt; stands = after; waits = ap (λ (l : List ℕ). length l) same }
 
@@ -250,6 +257,7 @@ take_not s (Some numbers) e of_call is =
     take_first_not s.broken TakeNo.Broken full e (λ same. is_of_take TakeNo.Broken e same of_call)
     (λ rest. take_first_not (nat_le s.rules.limits.txn_capacity (length numbers)) (TakeNo.TxnFull (length numbers)) None e (λ same. is_of_take (TakeNo.TxnFull (length numbers)) e same of_call) (take_none_not e) rest) is
 
+-- a take that was refused by its state met no disk fault, and spent no counter
 pub take_quietly : (s : State) (o : Option (List ℕ)) (e : TakeRefused) → take_refusal s o ≡ Some e → (e ≡ TakeNo.ReadFault → ⊥) × (e ≡ TakeNo.DiskFault → ⊥) × ((counter : Counter) → e ≡ TakeNo.Spent counter → ⊥)
 take_quietly s o e is = (
   (λ same. take_not s o TakeNo.ReadFault tt (is ∙ ap (λ (x : TakeRefused). Some x) same)),
@@ -257,6 +265,7 @@ take_quietly s o e is = (
   (λ counter same. take_not s o (TakeNo.Spent counter) tt (is ∙ ap (λ (x : TakeRefused). Some x) same)),
 )
 
+-- a take that its state refuses leaves the channel as it was
 pub take_refuses : (told : Option Told) (old : Logged) (token : Token) (e : TakeRefused) (s : State) → IsStateOf told old s → take_refusal s (takes_of s token) ≡ Some e → Steps told told old old (Take token (Err e)) s
 take_refuses told old token e s is refused = from e refused
   where
@@ -272,6 +281,7 @@ take_refuses told old token e s is refused = from e refused
 
 -- flushes
 
+-- a flush that was made settles what was staged
 pub flush_steps : (told told' : Option Told) (old new : Logged) (s : State) → IsStateOf told old s → s.broken ≡ false → Fits told' new (settle s) → new.log.bytes ≡ [] → Steps told told' old new (Flush (Ok tt)) s
 flush_steps told told' old new s is still fits empty =
     let moves : Moves true s (Flush (Ok tt)) (settle s) = record { admitted = still; state = refl } in
@@ -293,9 +303,11 @@ flush_steps told told' old new s is still fits empty =
       waits = ap (λ (l : List ℕ). length l) empty;
     }
 
+-- a flush that failed leaves a broken channel
 pub flush_faults : (told told' : Option Told) (old new : Logged) (s : State) → IsStateOf told old s → s.broken ≡ false → IsStateOf told' new (broken_state s) → new.log.bytes ≡ old.log.bytes → Steps told told' old new (Flush (Err FlushNo.DiskFault)) s
 flush_faults told told' old new s is still failed same = record { admitted = (still, is.whole.kind); stands = failed; waits = ap (λ (l : List ℕ). length l) same }
 
+-- a broken channel refuses a flush and stays as it was
 pub flush_refuses : (told : Option Told) (old : Logged) (s : State) → IsStateOf told old s → s.broken ≡ true → Steps told told old old (Flush (Err FlushNo.Broken)) s
 flush_refuses told old s is broken = record { admitted = broken; stands = is; waits = refl }
 
@@ -325,6 +337,7 @@ kept_whole told w b s k whole = record { logged = λ still. kept_logged (whole.l
 own_kept : (told told' : Option Told) (c : Logged) (w : Writer) → told' ≡ told → w ≡ record c.log { kept = w.kept } → AreOwn told c.log c.places.opened → AreOwn told' w c.places.opened
 own_kept told told' c w same is own = rw same (subst (λ (v : Writer). AreOwn told v c.places.opened) (sym is) own)
 
+-- the channel stands for the same state where its log keeps another reading
 pub kept_state : (told told' : Option Told) (c : Logged) (w : Writer) (s : State) → told' ≡ told → w ≡ record c.log { kept = w.kept } → (state : IsStateOf told c s) → (s.broken ≡ false → ArePlaced told' w state.settled state.known) → IsStateOf told' (record c { log = w }) s
 kept_state told told' c w s same is state placed = record {
   settled = state.settled;
@@ -337,6 +350,7 @@ kept_state told told' c w s same is state placed = record {
 
 -- which refusals came to a flush
 
+-- a put came to a flush that failed by a disk fault alone
 pub flushes_put : (token : Token) (event : Content) (e : PutRefused) → flushes (Put token event (Err e)) ≡ true → e ≡ PutNo.DiskFault
 flushes_put token event PutNo.Stale is = absurd (cc)
 flushes_put token event PutNo.Broken is = absurd (cc)
@@ -347,6 +361,7 @@ flushes_put token event (PutNo.Full n) is = absurd (cc)
 flushes_put token event PutNo.NoMemory is = absurd (cc)
 flushes_put token event PutNo.DiskFault is = refl
 
+-- a take came to a flush that failed by a disk fault alone
 pub flushes_take : (token : Token) (e : TakeRefused) → flushes (Take token (Err e)) ≡ true → e ≡ TakeNo.DiskFault
 flushes_take token TakeNo.Stale is = absurd (cc)
 flushes_take token TakeNo.Broken is = absurd (cc)
@@ -383,6 +398,7 @@ spent_puts : (s : State) (o : Option (List Content)) (event : Content) → true 
 spent_puts s None event some still kind = absurd (cc)
 spent_puts s (Some events) event some still kind = (still, refl, kind)
 
+-- a put is refused, and nothing is changed
 pub spent_put : (told : Option Told) (old : Logged) (token : Token) (event : Content) (s : State) → IsStateOf told old s → true ≡ is_some_of (puts_of s token) → s.broken ≡ false → Steps told told old old (Put token event (Err (PutNo.Spent File))) s
 spent_put told old token event s is some still = record { admitted = spent_puts s (puts_of s token) event some still is.whole.kind; stands = is; waits = refl }
 
@@ -390,5 +406,6 @@ spent_takes : (tells : Bool) (s : State) (o : Option (List ℕ)) → true ≡ is
 spent_takes tells s None some still kind = absurd (cc)
 spent_takes tells s (Some numbers) some still kind = (still, refl, kind)
 
+-- a take is refused, and nothing is changed
 pub spent_take : (told : Option Told) (old : Logged) (token : Token) (s : State) → IsStateOf told old s → true ≡ is_some_of (takes_of s token) → s.broken ≡ false → Steps told told old old (Take token (Err (TakeNo.Spent File))) s
 spent_take told old token s is some still = record { admitted = spent_takes (is_some_of told) s (takes_of s token) some still is.whole.kind; stands = is; waits = refl }

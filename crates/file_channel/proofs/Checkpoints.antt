@@ -44,18 +44,23 @@ ok_given {E} r A is given = subst (λ (x : Result (Unit {0}) E). OnOk x A) is gi
 
 -- the machine's steps
 
+-- a checkpoint that was laid leaves the state flushed
 pub check_steps : (told told' : Option Told) (old new : Logged) (s : State) → IsStateOf told old s → s.broken ≡ false → IsStateOf told' new (settle s) → new.log.bytes ≡ [] → Steps told told' old new (Checkpoint (Ok tt)) s
 check_steps told told' old new s is still stands empty = record { admitted = (still, is.whole.kind); stands = stands; waits = ap (λ (l : List ℕ). length l) empty }
 
+-- the flush was made, but the checkpoint failed
 pub check_fails : (told told' : Option Told) (old new : Logged) (s : State) → IsStateOf told old s → s.broken ≡ false → IsStateOf told' new (settle s) → new.log.bytes ≡ [] → Steps told told' old new (Checkpoint (Err CheckNo.CheckFault)) s
 check_fails told told' old new s is still stands empty = record { admitted = (still, is.whole.kind); stands = stands; waits = ap (λ (l : List ℕ). length l) empty }
 
+-- the flush before the checkpoint failed
 pub disk_fails : (told told' : Option Told) (old new : Logged) (s : State) → IsStateOf told old s → s.broken ≡ false → IsStateOf told' new (after s (Checkpoint (Err CheckNo.DiskFault))) → new.log.bytes ≡ old.log.bytes → Steps told told' old new (Checkpoint (Err CheckNo.DiskFault)) s
 disk_fails told told' old new s is still failed same = record { admitted = (still, is.whole.kind); stands = failed; waits = ap (λ (l : List ℕ). length l) same }
 
+-- a broken channel refuses a checkpoint
 pub check_refuses : (told : Option Told) (old : Logged) (s : State) → IsStateOf told old s → s.broken ≡ true → Steps told told old old (Checkpoint (Err CheckNo.Broken)) s
 check_refuses told old s is broken = record { admitted = (broken, is.whole.kind); stands = is; waits = refl }
 
+-- no number is left for a checkpoint, and nothing is changed
 pub check_spent : (told : Option Told) (old : Logged) (s : State) → IsStateOf told old s → s.broken ≡ false → Steps told told old old (Checkpoint (Err (CheckNo.Spent counters.Check))) s
 check_spent told old s is still = record { admitted = ((still, refl), is.whole.kind); stands = is; waits = refl }
 
@@ -70,9 +75,11 @@ flushed_then told mid told' s first second =
     follows told mid told' (λ t u. Flushed s t u) (λ t u. LeavesOnly t u (RecoversSettled (settle s))) (λ t u. LeavesOnly t u (MayRecover s))
     (λ t u v old between new a b. joined t u v (MayRecover s) a.images (only_more u v (RecoversSettled (settle s)) (MayRecover s) (settled_may s) b)) first second
 
+-- a flush without a checkpoint leaves what may be recovered
 pub flushed_only : (told told' : Option Told) (s : State) → Tells told told' (λ t u. Flushed s t u) → Tells told told' (λ t u. LeavesOnly t u (MayRecover s))
 flushed_only told told' s first = tells_more told told' (λ t u. Flushed s t u) (λ t u. LeavesOnly t u (MayRecover s)) (λ t u old new did. did.images) first
 
+-- a flush and then a write of the checkpoint's file lay it
 pub lays_then : (told mid told' : Option Told) (number max_file waiting : ℕ) (c : CheckText) → Tells told mid (FillsFiles max_file waiting) → (waiting ≡ 0 → mid ≡ told) → Tells mid told' (Changes (Check number) (IsLaying c) 3) → Tells told told' (Lays number max_file waiting c)
 lays_then told mid told' number max_file waiting c first nothing second =
     follows told mid told' (FillsFiles max_file waiting) (Changes (Check number) (IsLaying c) 3) (Lays number max_file waiting c)
@@ -83,6 +90,7 @@ lays_then told mid told' number max_file waiting c first nothing second =
 other_check : (n number : ℕ) → number < n → same_name (Check n) (Check number) ≡ false
 other_check n number less = grind (arith, nat_tests)
 
+-- after a checkpoint was written, the number behind it is free
 pub free_laid : (told told' : Option Told) (number most : ℕ) (P : Option (List ℕ) → Type 0) → Tells told told' (Changes (Check number) P most) → AreFree told number → AreFree told' (number + 1)
 free_laid told told' number most P changes free u now n high =
     let was = back told told' (Changes (Check number) P most) changes u now in
@@ -102,11 +110,13 @@ end_there t w busy s logged still =
       last = disk.none;
     }
 
+-- a checkpoint laid where the writer goes on has the end of the log for its place
 pub laid_at_end : (told : Option Told) (new : Logged) (number : ℕ) (s : State) (r : Result (Unit {0}) CheckRefused) → IsStateOf told new (after s (Checkpoint r)) → (is_tried r ≡ true → s.broken ≡ false) → OnOk r (WhereTold told (λ t. IsLaidOf t number (end_of_log new.log) (settle s))) → OnOk r (WhereTold told (IsLaid number (settle s)))
 laid_at_end told new number s (Ok done) is still laid =
     λ t there. (end_of_log new.log, end_there t new.log new.busy (settle s) (subst (λ (o : Option Told). IsLogged o new.log new.busy (settle s)) there (is.whole.logged (still refl))) (still refl), laid t there)
 laid_at_end told new number s (Err e) is still laid = tt
 
+-- one that was tried may be laid at the end of the log
 pub left_at_end : (told : Option Told) (new : Logged) (number : ℕ) (s : State) (r : Result (Unit {0}) CheckRefused) → IsStateOf told new (after s (Checkpoint r)) → (is_tried r ≡ true → s.broken ≡ false) → (is_made r ≡ true → WhereTold told (λ t. (image : Files) → IsImage t.now image → MayStand number (end_of_log new.log) (settle s) image))
     → is_made r ≡ true → WhereTold told (MayBeLaid number (settle s))
 left_at_end told new number s (Ok done) is still left made =
@@ -126,6 +136,7 @@ check_settled s (Err (CheckNo.Spent counter)) = refl
 check_settled s (Err CheckNo.DiskFault) = refl
 check_settled s (Err CheckNo.CheckFault) = refl
 
+-- they change by what the checkpoint's flush settled
 pub check_tally : (old new : Counts) (reply : Reply) (puts takes : ℕ) (s : State) (r : Result (Unit {0}) CheckRefused) → new ≡ noted old notes.Checkpoint reply → reply.settled_puts ≡ cond (is_made r) puts 0 → reply.settled_takes ≡ cond (is_made r) takes 0 → puts ≡ length (put_events s.staged) → takes ≡ capped (length (taken_numbers s.staged))
     → tally_of new ≡ counted s (Checkpoint r) (tally_of old)
 check_tally old new reply puts takes s r is reply_puts reply_takes puts_are takes_are =
@@ -139,6 +150,7 @@ check_is_fault (Err (CheckNo.Spent counter)) is = absurd (cc)
 check_is_fault (Err CheckNo.DiskFault) is = inl refl
 check_is_fault (Err CheckNo.CheckFault) is = inr refl
 
+-- each fault of a checkpoint's disk raises the count of faults
 pub fault_rose : (f f' : ℕ) (r : Result (Unit {0}) CheckRefused) → (r ≡ Err CheckNo.DiskFault → Rose f f') → (r ≡ Err CheckNo.CheckFault → Rose f f') → is_fault (Checkpoint r) ≡ true → Rose f f'
 fault_rose f f' r disk check is = from (check_is_fault r is)
   where

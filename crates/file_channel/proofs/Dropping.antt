@@ -42,6 +42,7 @@ module _ (told told' : Option Told) (w : Writer) (laid : NewestCheck) (keeps : T
   same_part : (t u : Told) → KeepsFrom laid.least laid.number t u → (file : ℕ) → laid.least ≤ file → settled_in u w file ≡ settled_in t w file
   same_part t u kept file low = ap (λ (o : Option (List ℕ)). take (end_of w file) (bytes_of o)) (kept.same (Log file) low).1
 
+  -- events stand at their pointers after a prune, which removed no file with one of them
   pub placed_pruned : (settled known : Known) → WhereTold told' (λ t. IsImage t.now t.reads) → ArePlaced told w settled known → ArePlaced told' w settled known
   placed_pruned settled known reads are = record {
     long = are.long;
@@ -73,6 +74,7 @@ module _ (told told' : Option Told) (w : Writer) (laid : NewestCheck) (keeps : T
   own_pruned t u kept txn p low (event, inl at) = (event, inl (subst (λ (l : List ℕ). PutBy l txn p event) (sym (same_part t u kept p.file low)) at))
   own_pruned t u kept txn p low (event, inr waits) = (event, inr waits)
 
+-- the state before a prune is that after it
 pub pruned_state : (told told' : Option Told) (c : Logged) (s : State) (laid : NewestCheck) → IsStateOf told c s → s.broken ≡ false → Tells told told' (KeepsFrom laid.least laid.number) → IsNeeded told laid → WhereTold told' (λ t. IsImage t.now t.reads) → IsLogged told' c.log c.busy s → IsStateOf told' c s
 pruned_state told told' c s laid is still keeps needed reads logged = record {
   settled = is.settled;
@@ -94,6 +96,7 @@ pruned_state told told' c s laid is still keeps needed reads logged = record {
         (λ p own in_known. own_pruned told told' c.log laid keeps needed b.0 u b.2 txn p (below.each p in_known.0 in_known.1) own) (is.owned still b.0 b.1 txn)
         (open_known is.known s.rules.limits.txn_capacity (open_at c.places.opened txn) (entry_of txn s.opened) (is.looks.opened txn))
 
+-- and so where the log and its count of open ones are as they were
 pub pruned_as : (told told' : Option Told) (c : Logged) (w : Writer) (busy : ℕ) (s : State) (laid : NewestCheck) → IsStateOf told c s → s.broken ≡ false → Tells told told' (KeepsFrom laid.least laid.number) → IsNeeded told laid → WhereTold told' (λ t. IsImage t.now t.reads) → w ≡ c.log → busy ≡ c.busy → IsLogged told' w busy s
     → IsStateOf told' (record { places = c.places; log = w; busy = busy }) s
 pruned_as told told' c w busy s laid is still keeps needed reads log busy_is logged =
@@ -103,12 +106,14 @@ pruned_as told told' c w busy s laid is still keeps needed reads log busy_is log
 
 -- the machine's steps
 
+-- a prune that removed files or failed on the disk
 pub prune_steps : (told told' : Option Told) (old new : Logged) (s : State) (reply : Result ℕ PruneRefused) → IsStateOf told old s → s.broken ≡ false → IsStateOf told' new s → new.log.bytes ≡ old.log.bytes → (reply ≡ Err PruneNo.DiskFault) ⊎ ((count : ℕ) × (reply ≡ Ok count)) → Steps told told' old new (Prune reply) s
 prune_steps told told' old new s reply is still stands same (inl failed) =
     subst (λ (r : Result ℕ PruneRefused). Steps told told' old new (Prune r) s) (sym failed) (record { admitted = (still, is.whole.kind); stands = stands; waits = ap (λ (l : List ℕ). length l) same })
 prune_steps told told' old new s reply is still stands same (inr done) =
     subst (λ (r : Result ℕ PruneRefused). Steps told told' old new (Prune r) s) (sym done.1) (record { admitted = (still, is.whole.kind); stands = stands; waits = ap (λ (l : List ℕ). length l) same })
 
+-- a broken channel refuses a prune, and stays as it was
 pub prune_refuses : (told : Option Told) (c : Logged) (s : State) → IsStateOf told c s → s.broken ≡ true → Steps told told c c (Prune (Err PruneNo.Broken)) s
 prune_refuses told c s is broken = record { admitted = (broken, is.whole.kind); stands = is; waits = refl }
 
@@ -119,6 +124,7 @@ settled_still told c s is still =
 
 -- the checkpoints
 
+-- after a prune the next number is free and the newest checkpoint is needed still
 pub pruned_checks : (told told' : Option Told) (c : CheckState) (laid : NewestCheck) → c.laid ≡ Some laid → WhereTold told (λ t. IsImage t.now t.reads) → Tells told told' (KeepsFrom laid.least laid.number) → AreChecks told c → AreChecks told' c
 pruned_checks told told' c laid is reads keeps are = record {
   free = λ u now n high. let b = was u now in free b.0 u b.1 b.2 n high;
@@ -147,12 +153,14 @@ pruned_checks told told' c laid is reads keeps are = record {
 
 -- the channel
 
+-- a prune's only fault is that of its disk
 pub prune_fault : (r : Result ℕ PruneRefused) → is_fault (Prune r) ≡ true → r ≡ Err PruneNo.DiskFault
 prune_fault (Ok count) is = absurd (cc)
 prune_fault (Err PruneNo.Broken) is = absurd (cc)
 prune_fault (Err (PruneNo.Spent counter)) is = absurd (cc)
 prune_fault (Err PruneNo.DiskFault) is = refl
 
+-- what a prune did to the disk: nothing, or what leaves the settled events
 pub prune_touched : (told told' : Option Told) (c c' : Logged) (s : State) (r : Result ℕ PruneRefused) → Steps told told' c c' (Prune r) s → (r ≡ Err PruneNo.Broken → told' ≡ told) → (s.broken ≡ false → Tells told told' (λ t u. LeavesOnly t u (RecoversSettled s))) → Touched told told' s
 prune_touched told told' c c' s r steps same images = from s.broken refl r steps.admitted.0 same
   where

@@ -27,9 +27,11 @@ spares_then t u v first second n = ((second n).0 ∙ (first n).0, from (first n)
     from (inr a) (inl b) = inr (b ∙ a)
     from before (inr b) = inr (b ∙ ap settle_entry (first n).0)
 
+-- a disk that is as it was keeps its checkpoints
 pub keeps_same : (told told' : Option Told) → told' ≡ told → KeepsChecks told told'
 keeps_same told told' same = subst (λ (v : Option Told). KeepsChecks told v) (sym same) (tells_same told SparesChecks (λ t is. spares_same t))
 
+-- two calls that each keep the checkpoints keep them together
 pub keeps_then : (told mid told' : Option Told) → KeepsChecks told mid → KeepsChecks mid told' → KeepsChecks told told'
 keeps_then told mid told' first second = follows told mid told' SparesChecks SparesChecks SparesChecks (λ t u v old between new a b. spares_then t u v a b) first second
 
@@ -49,6 +51,7 @@ flushed_spares s t u did n = from did.writes.writes
     from (inl here) = alone did.writes.file 2 here
     from (inr next) = alone (did.writes.file + 1) 3 next
 
+-- a flush makes and removes no checkpoint
 pub keeps_flushed : (told told' : Option Told) (s : State) → Tells told told' (λ t u. Flushed s t u) → KeepsChecks told told'
 keeps_flushed told told' s tells = tells_more told told' (λ t u. Flushed s t u) SparesChecks (λ t u old new did. flushed_spares s t u did) tells
 
@@ -70,6 +73,7 @@ leads_spare (Err e) t u leads n = from leads.err
     from (inl same) = subst (λ (v : Told). (v.reads (Check n) ≡ t.reads (Check n)) × ((v.now (Check n) ≡ t.now (Check n)) ⊎ (v.now (Check n) ≡ settle_entry (t.reads (Check n))))) (sym same) (refl, inl refl)
     from (inr part) = (part.others (Check n) refl, inl (ap (λ (f : Folder). f (Check n)) part.now))
 
+-- a settle keeps the checkpoints, also where it fails
 pub keeps_settled : (told told' : Option Told) (r : Result (Unit {0}) Failed) → Does Settle r told told' → KeepsChecks told told'
 keeps_settled told told' r tells = tells_more told told' (Leads Settle r) SparesChecks (λ t u old new leads. leads_spare r t u leads) tells
 
@@ -92,20 +96,24 @@ left_spared t u reads spares folder left n = from (spares n).1
         let is : folder (Check n) ≡ t.reads (Check n) = as_read (t.reads (Check n)) (folder (Check n)) (subst (λ (e : Entry). Allows e (folder (Check n))) settled (left n)) in
         subst (λ (o : Option (List ℕ)). Allows (t.now (Check n)) o) (sym is) (reads (Check n))
 
+-- a number that was free is free where the checkpoints are kept
 pub free_spared : (told told' : Option Told) (number : ℕ) → KeepsChecks told told' → AreFree told number → AreFree told' number
 free_spared told told' number keeps free u now =
     let was = back told told' SparesChecks keeps u now in
     unused_spared was.0 u number was.2 (free was.0 was.1)
 
+-- a newest checkpoint that was needed is needed where the checkpoints are kept
 pub needed_spared : (told told' : Option Told) (laid : NewestCheck) → WhereTold told (λ t. IsImage t.now t.reads) → KeepsChecks told told' → IsNeeded told laid → IsNeeded told' laid
 needed_spared told told' laid reads keeps needed u now =
     let was = back told told' SparesChecks keeps u now in
     needed_less was.0 u laid.least laid.number (left_spared was.0 u (reads was.0 was.1) was.2) (needed was.0 was.1)
 
+-- and so where there may be none
 pub some_needed : (told told' : Option Told) (laid : Option NewestCheck) → ((l : NewestCheck) → IsNeeded told l → IsNeeded told' l) → IfSome laid (IsNeeded told) → IfSome laid (IsNeeded told')
 some_needed told told' None keeps needed = tt
 some_needed told told' (Some l) keeps needed = keeps l needed
 
+-- what a channel knows of its checkpoints stays true where they are kept
 pub checks_spared : (told told' : Option Told) (c : CheckState) → WhereTold told (λ t. IsImage t.now t.reads) → KeepsChecks told told' → AreChecks told c → AreChecks told' c
 checks_spared told told' c reads keeps are = record { free = free_spared told told' c.next keeps are.free; needed = some_needed told told' c.laid (λ l. needed_spared told told' l reads keeps) are.needed }
 

@@ -200,6 +200,7 @@ module _ (t u : Told) (w : Writer) (s : State) (records : List Rec) (disk : OnDi
       subst (λ (q : Pointer). IsStill u q.file) (sym same) (still_there p.file (subst (λ (q : Pointer). q.file ≢ w.file + 1) same other) was)
   gone_still p event (inr waits) other was = absurd (other (ap (λ (q : Pointer). q.file) (goes w p waits.0)))
 
+  -- what is kept of a reading is still a piece of its file
   pub piece_still : IsPieceOf w.kept (settled_in t w) → IsPieceOf w.kept (settled_in u (next_of w))
   piece_still piece = piece_grows w.kept (settled_in t w) (settled_in u (next_of w)) grown piece
 

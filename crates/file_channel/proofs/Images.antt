@@ -36,6 +36,7 @@ image_is t w s records image n disk still are = from (eqb_tells n w.file)
     from (inl same) = subst (λ (m : ℕ). image (Log m) ≡ t.reads (Log m)) (sym same.1) own
     from (inr other) = as_read (t.reads (Log n)) (image (Log n)) (subst (λ (e : Entry). Allows e (image (Log n))) (still other.1) (are (Log n)))
 
+-- a PUT in a front of a file's bytes shows that the file is there and has it
 pub whole_file : (o : Option (List ℕ)) (n : ℕ) (p : Pointer) (event : Content) → PutAt (take n (bytes_of o)) p event → IsSomeAnd o (λ bytes. PutAt bytes p event)
 whole_file None n p event at = let none : List ℕ = [] in absurd (omega (arith, within (take n none) p event at, length-take n none))
 whole_file (Some bytes) n p event at = subst (λ (l : List ℕ). PutAt l p event) (take-append-drop n bytes) (put_grows (take n bytes) (drop n bytes) p event at)
@@ -44,6 +45,7 @@ stands_or_waits : (t : Told) (w : Writer) (image : Files) (p : Pointer) (event :
 stands_or_waits t w image p event same (inl at) = inr (subst (λ (o : Option (List ℕ)). IsSomeAnd o (λ bytes. PutAt bytes p event)) (sym same) (whole_file (t.reads (Log p.file)) (end_of w p.file) p event at))
 stands_or_waits t w image p event same (inr waits) = inl waits.0
 
+-- unless it waits for a flush, the event of a channel that is not broken stands in every image
 pub in_each_image : StandsInImages
 in_each_image told c s is t image p event still told_is are in_known =
     let waits = (is.whole.logged still).waits still in

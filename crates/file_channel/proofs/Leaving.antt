@@ -73,6 +73,7 @@ module _ (t u : Told) (w : Writer) (busy number : ℕ) (next : Next) (ring : Ind
   pub text_right : IsRight image c start.base.items start.opened
   text_right = (may.text t refl).right image has_log
 
+  -- where its file has all its bytes, the checkpoint stands for the start
   pub text_stands : image (Check number) ≡ Some (1 ∷ check_bytes c) → IsCheck image number c start
   text_stands spelled = record { spelled = spelled; means = record { right = text_right; number = (may.text t refl).number; txn = (may.text t refl).txn } }
 
@@ -90,6 +91,7 @@ module _ (t u : Told) (w : Writer) (busy number : ℕ) (next : Next) (ring : Ind
       from o is some (inl high) = absurd (none_some (image (Log n)) (gone high) some)
       from o is some (inr low) = omega (arith, low, disk.small)
 
+  -- a crash leaves its file passed over, or the newest checkpoint with the end of the log
   pub may_stand : MayStand number (end_of_log w) s image
   may_stand = from file_is
     where

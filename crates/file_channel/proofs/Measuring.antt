@@ -11,6 +11,7 @@ use Rattle.file_channel.specs.Opened.{AreShort}
 abbrev pub AreShortTo : Files → Option ℕ → Type 0
 AreShortTo files last = (n : ℕ) (bytes : List ℕ) → n < floor_of last → files (Log n) ≡ Some bytes → length bytes < 2 ^ 63
 
+-- before any is measured, those so far are short
 pub none_short : (files : Files) → AreShortTo files None
 none_short files n bytes low is = absurd (omega (arith, low))
 

@@ -38,6 +38,7 @@ abbrev pub cut : ℕ → Known → Known
 cut m [] = []
 cut m (k ∷ known) = if nat_le m k.0.file then k ∷ cut m known else cut m known
 
+-- what is known at a pointer from that file on is among them
 pub in_cut : (m : ℕ) (known : Known) (p : Pointer) (event : Content) → StandsIn known p event → m ≤ p.file → StandsIn (cut m known) p event
 in_cut m [] p event is low = absurd is
 in_cut m (k ∷ known) p event is low = from (nat_le m k.0.file) refl is (λ older. in_cut m known p event older low)
@@ -50,6 +51,7 @@ in_cut m (k ∷ known) p event is low = from (nat_le m k.0.file) refl is (λ old
         absurd (grind (arith, nat_tests, less, low, file))
     from false less (inr older) more = more older
 
+-- what is among them was known, and is in a file from that number on
 pub cut_back : (m : ℕ) (known : Known) (p : Pointer) (event : Content) → StandsIn (cut m known) p event → StandsIn known p event × (m ≤ p.file)
 cut_back m [] p event is = absurd is
 cut_back m (k ∷ known) p event is = from (nat_le m k.0.file) refl is (λ older. cut_back m known p event older)
@@ -103,6 +105,7 @@ none_staged known other [] (e ∷ entries) none look = look
 none_staged known other (l ∷ staged) [] none look = look
 none_staged known other (l ∷ staged) (e ∷ entries) none look = absurd (cc)
 
+-- the places of a bare state look the same without the events that are in earlier files
 pub looks_cut : (m : ℕ) (known : Known) (p : Places) (s : State) → Looks known known p s → s.staged ≡ [] → LeftFrom m p.live → ((txn : ℕ) → PutsFrom m (pointers_at p.opened txn)) → Looks (cut m known) (cut m known) p s
 looks_cut m known p s looks staged live puts = record {
   sound = looks.sound;
@@ -114,6 +117,7 @@ looks_cut m known p s looks staged live puts = record {
   numbers = looks.numbers;
 }
 
+-- events stand at their pointers when those in earlier files are left out
 pub placed_cut : (told : Option Told) (w : Writer) (m : ℕ) (settled known : Known) → ArePlaced told w settled known → ArePlaced told w (cut m settled) (cut m known)
 placed_cut told w m settled known are = record {
   long = λ p event is. are.long p event (cut_back m known p event is).0;
@@ -140,9 +144,11 @@ same_puts None = refl
 same_puts (Some o) = refl
 
 module _ (place : Place) (next : Next) (ring : Index) (table : Table) (c : CheckText) (says : Says place next ring table c) where
+  -- the ring has no pointer before the files that the checkpoint names
   pub left_named : (m : ℕ) → NamesFrom m c → LeftFrom m ring.live
   left_named m names = unmapped m ring.live (subst (λ (l : List (ℕ × Pointer)). AllByRecursion (λ (k : ℕ × Pointer). m ≤ k.1.file) l) says.live names.live)
 
+  -- the open puts have no pointer before those files
   pub puts_named : (m : ℕ) → NamesFrom m c → (txn : ℕ) → PutsFrom m (pointers_at table txn)
   puts_named m names txn = subst (PutsFrom m) (says.puts.each txn ∙ same_puts (open_at table txn)) (all_listed (λ (p : Pointer). m ≤ p.file) txn c.puts names.puts)
 
@@ -168,6 +174,7 @@ module _ (place : Place) (next : Next) (ring : Index) (table : Table) (c : Check
       of_list (Puts pointers) (entry.Takes taken) look = absurd look
       of_list (Takes numbers) e look = tt
 
+  -- where no pointer is below a number, the checkpoint names no file below it
   pub names_known : (m : ℕ) (known : Known) (p : Places) (s : State) → Looks known known p s → ring.live ≡ p.live → table ≡ p.opened → AreNotBelow m place.file known → NamesFrom m c
   names_known m known p s looks live opened below = record {
     place = subst (λ (at : Place). m ≤ at.file) (sym says.place_is) below.own;
@@ -184,6 +191,7 @@ pub record Finds (place : Place) (ring : Index) (table : Table) (least : ℕ) : 
   pub names : (next : Next) (c : CheckText) → Says place next ring table c → Rise 0 next.number c.live → NamesFrom least c
   pub least_is : (next : Next) (c : CheckText) (other : ℕ) → Says place next ring table c → NamesFrom other c → other ≤ least
 
+-- the least file that was found is the least that the checkpoint names
 pub least_of : (place : Place) (next : Next) (ring : Index) (table : Table) (c : CheckText) (least : ℕ) → Says place next ring table c → Rise 0 next.number c.live → Finds place ring table least → IsLeastNamed least c
 least_of place next ring table c least says rise finds = record { names = finds.names next c says rise; most = λ other names. finds.least_is next c other says names }
 

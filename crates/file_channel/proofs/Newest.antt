@@ -52,6 +52,7 @@ one_number a b is = cc
 -- what a crash leaves of checkpoints after a folder was settled and a log file was begun is what reads gave
 
 module _ (t v : Told) (number : ℕ) (begins : BeginsFile number (done Settle t) v) where
+  -- after a log file was begun, a crash leaves of the checkpoints what reads gave
   pub read_left : AreLeft v t.reads
   read_left n = subst (λ (e : Entry). Allows e (t.reads (Check n))) (sym (begins.others (Check n) refl).0) (settled_allows (t.reads (Check n)))
     where
@@ -62,6 +63,7 @@ module _ (t v : Told) (number : ℕ) (begins : BeginsFile number (done Settle t)
       settled_allows None = tt
       settled_allows (Some bytes) = stable_may bytes
 
+  -- so each folder that a crash leaves has the checkpoints that were read
   pub left_read : (folder : Files) → AreLeft v folder → (n : ℕ) → folder (Check n) ≡ t.reads (Check n)
   left_read folder left n = as_read (t.reads (Check n)) (folder (Check n)) (subst (λ (e : Entry). Allows e (folder (Check n))) (begins.others (Check n) refl).0 (left n))
 
@@ -95,9 +97,11 @@ module _ (was mid now : Option Told) (number : ℕ) (settles : Tells was mid Set
       let a = back was mid SettledAs settles b.0 b.1 in
       (a.0, a.1, subst (λ (u : Told). BeginsFile number u v) a.2 b.2)
 
+  -- nothing is asked where the disk does not show its contents
   pub needing_silent : (known : Known) → ((t : Told) → was ≡ Some t → ⊥) → AreNeeding now number known
   needing_silent known none v is = let a = since v is in absurd (none a.0 a.1)
 
+  -- no pointer is into a file before those that the newest checkpoint of the begun folder names
   pub needing_begun : (check : Option NewestCheck) (r : Replayed) → WhereTold was (λ t. IsNextFile t.reads number) → WhereTold was (λ t. IsOpened t.reads (record { check = check; replayed = r })) → (known : Known)
       → ((least : ℕ) → AllByRecursion (λ (l : Left). least ≤ l.pointer.file) r.ring.live → (p : Pointer) (event : Content) → StandsIn known p event → least ≤ p.file) → AreNeeding now number known
   needing_begun check r next opened known ring v is least laid needs =

@@ -24,6 +24,7 @@ all_push : {A : Type 0} (P : A → Type 0) (xs : List A) (x : A) → AllByRecurs
 all_push P [] x all last = (last, tt)
 all_push P (y ∷ xs) x all last = (all.0, all_push P xs x all.1 last)
 
+-- a PUT of a transaction stands where more bytes follow
 pub by_grows : (bytes more : List ℕ) (txn : ℕ) (p : Pointer) (event : Content) → PutBy bytes txn p event → PutBy (bytes ++ more) txn p event
 by_grows bytes more txn p event (at, of) = (
   record {
@@ -49,9 +50,11 @@ own_less told w old new keeps own t is txn = from (keeps txn) (own t is txn)
     from (inl same) all = subst (λ (ps : List Pointer). AllByRecursion (λ p. IsOwn t w txn p) ps) (sym same) all
     from (inr none) all = subst (λ (ps : List Pointer). AllByRecursion (λ p. IsOwn t w txn p) ps) (sym none) tt
 
+-- where the open transactions are the same, each pointer is its own
 pub own_same : (told : Option Told) (w : Writer) (old new : Table) → new ≡ old → AreOwn told w old → AreOwn told w new
 own_same told w old new same own = subst (λ (table : Table). AreOwn told w table) (sym same) own
 
+-- where no transaction is open, there is no pointer to own
 pub own_none : (told : Option Told) (w : Writer) (table : Table) → table ≡ [] → AreOwn told w table
 own_none told w table none = subst (λ (t : Table). AreOwn told w t) (sym none) (λ t is txn. tt)
 

@@ -31,6 +31,7 @@ use Rattle.file_channel.specs.Stepped.{ReadsAs}
 
 -- one record more waits
 
+-- events stand at their pointers after a record more was appended
 pub placed_appends : (told : Option Told) (w w' : Writer) (rec : Rec) (settled known : Known) → Appends w w' rec → ArePlaced told w settled known → ArePlaced told w' settled known
 placed_appends told w w' rec settled known adds are = subst (λ (v : Writer). ArePlaced told v settled known) (sym adds.is) (record {
   long = are.long;
@@ -53,6 +54,7 @@ placed_appends told w w' rec settled known adds are = subst (λ (v : Writer). Ar
 abbrev pub next_place : Writer → ℕ → Pointer
 next_place w long = record { file = w.file; at = w.gate + 1 + length w.bytes; length = long }
 
+-- a pointer made of the writer's file, its place and a length is the next place
 pub place_is : (w : Writer) (file at long n : ℕ) → file ≡ w.file → at ≡ w.gate + 1 + length w.bytes → long ≡ n → ◌≡◌ {A = Pointer} (record { file = file; at = at; length = long }) (next_place w n)
 place_is w file at long n file_is at_is long_is = rw (file_is, at_is, long_is) refl
 
@@ -64,6 +66,7 @@ there_by : (t : Told) (w : Writer) (txn : ℕ) (p : Pointer) (event : Content) �
 there_by t w txn p event (inl at) = inl at.0
 there_by t w txn p event (inr waits) = inr (waits.0, waits.1.0)
 
+-- the PUT that was appended waits at the next place
 pub waits_there : (t : Told) (w w' : Writer) (txn : ℕ) (event : Content) → Appends w w' (Put txn event) → IsThereBy t w' txn (next_place w (size event)) event
 waits_there t w w' txn event adds = subst (λ (v : Writer). IsThereBy t v txn (next_place w (size event)) event) (sym adds.is) (inr (
   (refl, omega arith),
@@ -140,11 +143,13 @@ pub record Grows (t u : Told) (w w' : Writer) : Type 0 where
   pub file : w.file ≤ w'.file
   pub kept : w'.kept ≡ w.kept
 
+-- where nothing was done, nothing grew
 pub same_grows : (t : Told) (w : Writer) → Grows t t w w
 same_grows t w = record { settled = λ file. ([], sym (append-nil (settled_in t w file))); waited = λ p event txn waits at. inr (waits, at); still = λ file other was. was other; file = omega arith; kept = refl }
 
 -- a frame more
 
+-- the writer's own file is settled up to its closed commit byte
 pub end_own : (w : Writer) (file : ℕ) → file ≡ w.file → end_of w file ≡ w.gate
 end_own w file is = own (eqb_tells file w.file)
   where
@@ -152,6 +157,7 @@ end_own w file is = own (eqb_tells file w.file)
     own (inl same) = rw same.0 refl
     own (inr other) = absurd (other.1 is)
 
+-- any other file is settled to its end
 pub end_other : (w : Writer) (file : ℕ) → file ≢ w.file → end_of w file ≡ 2 ^ 64 - 1
 end_other w file isnt = from (eqb_tells file w.file)
   where
@@ -164,6 +170,7 @@ pub not_waiting : (t : Told) (w : Writer) (p : Pointer) (event : Content) → Pu
 not_waiting t w p event at waits =
     omega (arith, within (settled_in t w p.file) p event at, length-take (end_of w p.file) (bytes_of (t.reads (Log p.file))), end_own w p.file waits.0, waits.1)
 
+-- no PUT stands in an empty file
 pub no_put : (p : Pointer) (event : Content) → PutAt [] p event → ⊥
 no_put p event at = omega (arith, within [] p event at)
 
@@ -233,6 +240,7 @@ opened_one : (records : List Rec) → opened (records ∷ []) ≡ 1 ∷ (record_
 unfolding frame_bytes
 opened_one records = ap (λ (l : List ℕ). 1 ∷ l) (append-nil (record_bytes records ++ spelling (End (length records))))
 
+-- what is settled grows by a flush of one frame
 pub frame_grows : (t u : Told) (w w' : Writer) (birth : ℕ) (frames : List (List Rec)) (records : List Rec) → IsAtRest t birth w.file w.gate frames → IsAtRest u birth w.file w'.gate (frames ++ records ∷ []) → IsPending w records
     → Changes (Log w.file) (LacksOrHas birth w.file frames records) 2 t u → w' ≡ record w { gate = w.gate + length w.bytes + 6; started = true; bytes = []; count = 0 } → Grows t u w w'
 frame_grows t u w w' birth frames records rest rest' pending changes is = record {
@@ -332,6 +340,7 @@ part_piece k part =
     let there : drop k.from (part_of k part k.file) ≡ k.bytes = ap (λ (l : List ℕ). drop k.from l) (part_own k part) ∙ drop_at (replicate k.from 0) k.bytes k.from (length-replicate k.from 0) in
     sym (ap (λ (l : List ℕ). take (length k.bytes) l) there ∙ take_all (length k.bytes) k.bytes (omega arith))
 
+-- a reading at the pointer gives the event, from the file, from what waits or from what is kept
 pub reads_event : (t : Told) (w : Writer) (p : Pointer) (event : Content) (known : Known) (r : Result Content ReadRefused) → StandsIn known p event → IsForgotten w known ⊎ IsPieceOf w.kept (settled_in t w) → IsThere t w p event → (IsWaiting w p → FoundAt w.bytes (in_frame w p) r × (IsErrOf r ReadFault → ⊥))
     → ((part : ℕ → List ℕ) → IsPieceOf w.kept part → IsBelow t p.file (end_of w p.file) (part p.file) → (IsWaiting w p → ⊥) → FoundAt (part p.file) p r) → GivesEvent event r
 reads_event t w p event known r in_known piece there waiting settled = gives p event r (found there)
@@ -407,6 +416,7 @@ some_file : (o : Option (List ℕ)) (n : ℕ) (p : Pointer) (event : Content) �
 some_file None n p event at = let none : List ℕ = [] in absurd (omega (arith, within (take n none) p event at, length-take n none))
 some_file (Some bytes) n p event at = refl
 
+-- where the writer's own file is there, so is the file of any event that is there
 pub file_there : (t : Told) (w : Writer) (p : Pointer) (event : Content) → IsSome (t.reads (Log w.file)) → IsThere t w p event → IsSome (t.reads (Log p.file))
 file_there t w p event own (inl at) = some_file (t.reads (Log p.file)) (end_of w p.file) p event at
 file_there t w p event own (inr waits) = subst (λ (n : ℕ). IsSome (t.reads (Log n))) (sym waits.0.0) own

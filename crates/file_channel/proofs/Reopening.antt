@@ -206,6 +206,7 @@ log_rests told c s is = whole_may_rest told c.log c.busy s is.whole
 pub leaves_still : (told : Option Told) (c : Logged) → ShowsOf told c (λ s. Tells told told (λ t u. LeavesOnly t u (MayRecover s)))
 leaves_still told c s is = rests_still told s (log_rests told c s is)
 
+-- while a folder is opened, a crash leaves what may be recovered
 pub leaves_over : (told told' : Option Told) (c : Logged) → ReadsAreLeft told → Tells told told' OpensOver → ShowsOf told c (λ s. Tells told told' (λ t u. LeavesOnly t u (MayRecover s)))
 leaves_over told told' c reads over s is = opens_leaves told told' s (log_rests told c s is) reads over
 
@@ -230,9 +231,11 @@ refused told told' old p e s is breaks rests may = record {
 life_of : (told : Option Told) (c : Logged) (s : State) → IsStateOf told c s → c.places.numbers.life ≡ s.life
 life_of told c s is = ap (λ (n : Numbers). n.life) is.looks.numbers
 
+-- the places hold the state's limit of events
 pub limit_of : (told : Option Told) (c : Logged) (s : State) → IsStateOf told c s → c.places.numbers.rules.limits.capacity ≡ s.rules.limits.capacity
 limit_of told c s is = ap (λ (n : Numbers). n.rules.limits.capacity) is.looks.numbers
 
+-- a reopening that a folder refused leaves the channel broken
 pub refused_anew : (told told' : Option Told) (old : Logged) (p : Places) (e : OpenCause) → ReadsAreLeft told → old.places.numbers.life < 2 ^ 64 - 1 → IsOfFile e → Tells told told' OpensOver → Breaks old p → StepsOn told told' old (record old { places = p }) (Reopen (Err e))
 refused_anew told told' old p e reads life counter over breaks s is =
     let lives : s.life < 2 ^ 64 - 1 = omega (arith, life, life_of told old s is) in
@@ -304,6 +307,7 @@ pub record DidReopenIn (told told' : Option Told) (f f' : ℕ) (old new : FileSt
 abbrev seen_in : FileState → State → Seen
 seen_in c s = record { state = s; tally = c.tally; waiting = c.waiting }
 
+-- a reopening adds itself to what the channel stands for
 pub adds_reopened : (told told' : Option Told) (f f' : ℕ) (old new : FileState) (reply : Result Reopened OpenCause) → ((s : State) → IsStateOf told old.logged s → DidReopenIn told told' f f' old new reply s) → AddsOne (StandsOver told f old) (StandsOver told' f' new) (Reopen reply) (moment_of told')
 adds_reopened told told' f f' old new reply each start h pass stands =
     let s : State = state_after (opening start) h in
@@ -328,6 +332,7 @@ adds_reopened told told' f f' old new reply each start h pass stands =
     let same : s' ≡ state_after (opening start) (h ++ step ∷ []) = sym (state-push (opening start) h step) in
     stands_as (λ v. v ≡ s') (IsStateOf told' new.logged) told' f' new.tally new.waiting start (h ++ step ∷ []) (subst (λ (v : State). IsStateOf told' new.logged v) same did.steps.stands) longer
 
+-- what follows of an answer that is Ok, for a reopening
 pub ok_each : (r : Result (Unit {0}) OpenCause) (A B : Type 0) → (A → B) → OnOk r A → OnOk r B
 ok_each (Ok done) A B maps is = maps is
 ok_each (Err e) A B maps is = tt

@@ -41,6 +41,7 @@ same_rising places others (l ∷ live) (x ∷ a) (y ∷ b) low first has had ris
     let same : x.0 ≡ y.0 = sym has.0 ∙ had.0 in
     (omega (arith, rising.0, same), same_rising places others live a b (y.0 + 1) first has.2 had.2 (subst (λ (n : ℕ). Rising (n + 1) a first) same rising.1))
 
+-- where a ring with some events is a base, it is one with others, too
 pub same_base : (places others : Places) (live : List Left) (base other : Base) → HasItems places live base.items → HasItems others live other.items → base.first ≡ other.first → IsBase base → IsBase other
 same_base places others live base other has had same is =
     base_rising other (subst (λ (n : ℕ). Rising 0 other.items n) same (same_rising places others live base.items other.items 0 base.first has had (rising_base base is)))
@@ -62,12 +63,14 @@ ring_places [] items = []
 ring_places (l ∷ live) [] = []
 ring_places (l ∷ live) (item ∷ items) = (l.pointer, item.1) ∷ ring_places live items
 
+-- one more event that is known leaves the ring's events known
 pub has_more : (k : Pointer × Content) (places : Known) (live : List Left) (items : List (ℕ × Content)) → HasItems places live items → HasItems (k ∷ places) live items
 has_more k places [] [] has = has
 has_more k places [] (item ∷ items) has = has
 has_more k places (l ∷ live) [] has = has
 has_more k places (l ∷ live) (item ∷ items) has = (has.0, inr has.1, has_more k places live items has.2)
 
+-- the events of a ring that was read from files are known at its pointers
 pub has_ring : (files : Files) (live : List Left) (items : List (ℕ × Content)) → LiveAre files (map live_at live) items → HasItems (ring_places live items) live items
 has_ring files [] [] are = tt
 has_ring files [] (item ∷ items) are = are
@@ -84,6 +87,7 @@ in_file : (files : Files) (file : Option (List ℕ)) (p : Pointer) (event : Cont
 in_file files None p event is at = absurd at
 in_file files (Some bytes) p event is at = record { bytes = bytes; reads = is; stands = at }
 
+-- the PUT of each event of a ring stands in its file
 pub ring_stands : (files : Files) (live : List Left) (items : List (ℕ × Content)) (p : Pointer) (event : Content) → LiveAre files (map live_at live) items → StandsIn (ring_places live items) p event → InFile files p event
 ring_stands files [] items p event are is = absurd is
 ring_stands files (l ∷ live) [] p event are is = absurd is
@@ -97,10 +101,12 @@ ring_from least (l ∷ live) [] p event low is = absurd is
 ring_from least (l ∷ live) (item ∷ items) p event low (inl same) = subst (λ (k : Pointer × Content). least ≤ k.0.file) same low.0
 ring_from least (l ∷ live) (item ∷ items) p event low (inr older) = ring_from least live items p event low.1 older
 
+-- what follows of a result that is Ok
 pub ok_maps : {T E : Type 0} (r : Result T E) (P Q : T → Type 0) → ((x : T) → P x → Q x) → IfOk r P → IfOk r Q
 ok_maps (Ok x) P Q maps is = maps x is
 ok_maps (Err e) P Q maps is = tt
 
+-- a ring of which none is held has as many entries as events
 pub as_many : (places : Places) (live : List Left) (items : List (ℕ × Content)) → HasItems places live items → AllByRecursion (λ (l : Left). l.held ≡ false) live → length live ≡ length items
 as_many places live items has free = left_length places [] live items (items_look places live items has free)
 

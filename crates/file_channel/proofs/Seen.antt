@@ -29,6 +29,7 @@ abbrev pub blanks : List Left → Known
 blanks [] = []
 blanks (l ∷ live) = (l.pointer, blank l.pointer.length) ∷ blanks live
 
+-- each event that is left has its blank one at its pointer
 pub has_blanks : (live : List Left) → HasItems (blanks live) live (items_at None live)
 has_blanks [] = tt
 has_blanks (l ∷ live) = (refl, inl (refl, refl), has_more (l.pointer, blank l.pointer.length) (blanks live) live (items_at None live) (has_blanks live))
@@ -40,11 +41,13 @@ size_blank n least = omega (arith, least, size-sum (blank n), length-replicate {
 least_size : (places : Known) (p : Pointer) (event : Content) → AreSized places → IsPlaced places p event → 8 ≤ p.length
 least_size places p event sized is = omega (arith, size-sum event, are_long places sized p event (placed_known places p event is))
 
+-- the blank events have their sizes where the real ones do
 pub blanks_sized : (places : Known) (live : List Left) (items : List (ℕ × Content)) → HasItems places live items → AreSized places → AreSized (blanks live)
 blanks_sized places [] items has sized = tt
 blanks_sized places (l ∷ live) [] has sized = absurd has
 blanks_sized places (l ∷ live) (item ∷ items) has sized = (size_blank l.pointer.length (least_size places l.pointer item.1 sized has.1), blanks_sized places live items has.2 sized)
 
+-- such a disk shows a blank event at each of these pointers
 pub blanks_seen : (live : List Left) → AreSeen None (blanks live)
 blanks_seen [] p event is = absurd is
 blanks_seen (l ∷ live) p event (inl same) = subst (λ (k : Pointer × Content). event_at None k.0 ≡ k.1) same refl

@@ -58,6 +58,7 @@ pub record DidSo (told told' : Option Told) (f f' : ℕ) (old new : FileState) (
 abbrev seen_in : FileState → State → Seen
 seen_in c s = record { state = s; tally = c.tally; waiting = c.waiting }
 
+-- a call that may leave in a crash what a flush may adds itself
 pub adds_did_so : (told told' : Option Told) (f f' : ℕ) (old new : FileState) (call : Call) → ((s : State) → IsStateOf told old.logged s → DidSo told told' f f' old new call s) → AddsOne (StandsOver told f old) (StandsOver told' f' new) call (moment_of told')
 adds_did_so told told' f f' old new call each start h pass stands =
     let s : State = state_after (opening start) h in
@@ -71,6 +72,7 @@ adds_did_so told told' f f' old new call each start h pass stands =
     let same : after s call ≡ state_after (opening start) (h ++ step ∷ []) = sym (state-push (opening start) h step) in
     stands_as (λ v. v ≡ after s call) (IsStateOf told' new.logged) told' f' new.tally new.waiting start (h ++ step ∷ []) (subst (λ (v : State). IsStateOf told' new.logged v) same did.steps.stands) longer
 
+-- a method's call adds itself to what the channel stands for
 pub adds_did : (told told' : Option Told) (f f' : ℕ) (old new : FileState) (call : Call) → ((s : State) → IsStateOf told old.logged s → Did told told' f f' old new call s) → AddsOne (StandsOver told f old) (StandsOver told' f' new) call (moment_of told')
 adds_did told told' f f' old new call each =
     adds_did_so told told' f f' old new call
@@ -153,6 +155,7 @@ flush_settled : (s : State) (r : Result (Unit {0}) FlushRefused) → settled_by 
 flush_settled s (Ok done) = refl
 flush_settled s (Err e) = refl
 
+-- it is counted: what was staged where it flushed, and else nothing
 pub flushing_tally : (old new : Counts) (note : Noting) (reply : Reply) (b : Bool) (puts takes : ℕ) (s : State) (call : Call) → new ≡ noted old note reply → one_for_put note ≡ put_calls call → one_for_take note ≡ take_calls call → reply.settled_puts ≡ cond b puts 0 → reply.settled_takes ≡ cond b takes 0
     → puts ≡ length (put_events s.staged) → takes ≡ capped (length (taken_numbers s.staged)) → settled_by s call ≡ cond b s.staged [] → tally_of new ≡ counted s call (tally_of old)
 flushing_tally old new note reply b puts takes s call is ones one_takes reply_puts reply_takes puts_are takes_are settled =
@@ -161,16 +164,19 @@ flushing_tally old new note reply b puts takes s call is ones one_takes reply_pu
     (reply_puts ∙ (both.0 ∙ sym (ap (λ (l : List Entry). length (put_events l)) settled)))
     (reply_takes ∙ (both.1 ∙ sym (ap (λ (l : List Entry). capped (length (taken_numbers l))) settled)))
 
+-- a put's counts, with those of its flush
 pub put_tally : (old new : Counts) (reply : Reply) (puts takes : ℕ) (s : State) (token : Token) (event : Content) (r : Result Put PutRefused) → new ≡ noted old notes.Put reply → reply.settled_puts ≡ cond (put_spills r) puts 0 → reply.settled_takes ≡ cond (put_spills r) takes 0
     → puts ≡ length (put_events s.staged) → takes ≡ capped (length (taken_numbers s.staged)) → tally_of new ≡ counted s (PutCall token event r) (tally_of old)
 put_tally old new reply puts takes s token event r is reply_puts reply_takes puts_are takes_are =
     flushing_tally old new notes.Put reply (put_spills r) puts takes s (PutCall token event r) is refl refl reply_puts reply_takes puts_are takes_are (put_settled s token event r)
 
+-- a take's counts, with those of its flush
 pub take_tally : (old new : Counts) (reply : Reply) (puts takes : ℕ) (s : State) (token : Token) (r : Result Taken TakeRefused) → new ≡ noted old notes.Take reply → reply.settled_puts ≡ cond (take_spills r) puts 0 → reply.settled_takes ≡ cond (take_spills r) takes 0
     → puts ≡ length (put_events s.staged) → takes ≡ capped (length (taken_numbers s.staged)) → tally_of new ≡ counted s (TakeCall token r) (tally_of old)
 take_tally old new reply puts takes s token r is reply_puts reply_takes puts_are takes_are =
     flushing_tally old new notes.Take reply (take_spills r) puts takes s (TakeCall token r) is refl refl reply_puts reply_takes puts_are takes_are (take_settled s token r)
 
+-- a flush's counts
 pub flush_tally : (old new : Counts) (reply : Reply) (puts takes : ℕ) (s : State) (r : Result (Unit {0}) FlushRefused) → new ≡ noted old notes.Flush reply → reply.settled_puts ≡ cond (flush_settles r) puts 0 → reply.settled_takes ≡ cond (flush_settles r) takes 0
     → puts ≡ length (put_events s.staged) → takes ≡ capped (length (taken_numbers s.staged)) → tally_of new ≡ counted s (FlushCall r) (tally_of old)
 flush_tally old new reply puts takes s r is reply_puts reply_takes puts_are takes_are =

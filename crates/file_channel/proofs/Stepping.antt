@@ -23,6 +23,7 @@ use Rattle.file_channel.specs.Stepped.{Steps}
 use Rattle.file_channel.proofs.Owning.{own_appends, own_less}
 use Rattle.file_channel.proofs.Placing.{placed_appends}
 
+-- places are broken where the state is
 pub same_broken : (settled known : Known) (p : Places) (s : State) → Looks settled known p s → p.numbers.broken ≡ s.broken
 same_broken settled known p s looks = ap (λ (n : Numbers). n.broken) looks.numbers
 
@@ -32,6 +33,7 @@ begin_still entry s (Err e) is = is
 
 -- a transaction more
 
+-- a put transaction is begun, or refused
 pub begun_put : (told : Option Told) (old : Logged) (p : Places) (reply : Result Token BeginRefused) (s : State) → IsStateOf told old s → looks.Steps old.places (BeginPut reply) p → KeepsPuts old.places.opened p.opened → Steps told told old (record old { places = p }) (BeginPut reply) s
 begun_put told old p reply s is step keeps =
     let did = step is.settled is.known s is.looks in
@@ -49,6 +51,7 @@ begun_put told old p reply s is step keeps =
       waits = refl;
     }
 
+-- a take transaction is begun, or refused
 pub begun_take : (told : Option Told) (old : Logged) (p : Places) (reply : Result Token BeginRefused) (s : State) → IsStateOf told old s → looks.Steps old.places (BeginTake reply) p → KeepsPuts old.places.opened p.opened → Steps told told old (record old { places = p }) (BeginTake reply) s
 begun_take told old p reply s is step keeps =
     let did = step is.settled is.known s is.looks in
@@ -77,14 +80,17 @@ nothing_rolled broken held waiting is = rolled_none broken held waiting (λ both
 
 -- a stale token's transaction
 
+-- a rollback of a put with a stale token changes nothing
 pub stale_put : (told : Option Told) (old : Logged) (token : Token) (s : State) → IsStateOf told old s → false ≡ is_some_of (puts_of s token) → Steps told told old old (RollbackPut token false) s
 stale_put told old token s is stale = record { admitted = stale; stands = is; waits = nothing_rolled s.broken (size_of_list (puts_of s token)) (length old.log.bytes) (none_listed (puts_of s token) stale) }
 
+-- a rollback of a take with a stale token changes nothing
 pub stale_take : (told : Option Told) (old : Logged) (token : Token) (s : State) → IsStateOf told old s → false ≡ is_some_of (takes_of s token) → Steps told told old old (RollbackTake token false) s
 stale_take told old token s is stale = record { admitted = stale; stands = is; waits = nothing_rolled s.broken (size_of_list (takes_of s token)) (length old.log.bytes) (none_listed (takes_of s token) stale) }
 
 -- one that did something has a record for it
 
+-- a rollback of puts, with its record in the log
 pub recorded_put : (told : Option Told) (old new : Logged) (token : Token) (rec : Rec) (s : State) → IsStateOf told old s → true ≡ is_some_of (puts_of s token) → ((settled known : Known) → Looks settled known old.places s → Looks settled known new.places (close token.number s)) → KeepsPuts old.places.opened new.places.opened → 0 < size_of_list (puts_of s token) → s.broken ≡ false
     → IsLogged told new.log new.busy (close token.number s) → Appends old.log new.log rec → length new.log.bytes ≡ length old.log.bytes + 9 → Steps told told old new (RollbackPut token true) s
 recorded_put told old new token rec s is is_open places keeps some still log adds longer =
@@ -102,6 +108,7 @@ recorded_put told old new token rec s is is_open places keeps some still log add
       waits = longer ∙ rolled_some s.broken (size_of_list (puts_of s token)) (length old.log.bytes) (some, still);
     }
 
+-- a rollback of takes, with its record in the log
 pub recorded_take : (told : Option Told) (old new : Logged) (token : Token) (rec : Rec) (s : State) → IsStateOf told old s → true ≡ is_some_of (takes_of s token) → ((settled known : Known) → Looks settled known old.places s → Looks settled known new.places (close token.number s)) → KeepsPuts old.places.opened new.places.opened → 0 < size_of_list (takes_of s token) → s.broken ≡ false
     → IsLogged told new.log new.busy (close token.number s) → Appends old.log new.log rec → length new.log.bytes ≡ length old.log.bytes + 9 → Steps told told old new (RollbackTake token true) s
 recorded_take told old new token rec s is is_open places keeps some still log adds longer =
@@ -121,6 +128,7 @@ recorded_take told old new token rec s is is_open places keeps some still log ad
 
 -- one that did nothing, or that of a broken channel, has none
 
+-- a rollback of a put transaction without a record
 pub unrecorded_put : (told : Option Told) (old : Logged) (p : Places) (token : Token) (s : State) → IsStateOf told old s → true ≡ is_some_of (puts_of s token) → ((settled known : Known) → Looks settled known old.places s → Looks settled known p (close token.number s)) → KeepsPuts old.places.opened p.opened → ((0 < size_of_list (puts_of s token)) × (s.broken ≡ false) → ⊥)
     → Steps told told old (record old { places = p }) (RollbackPut token true) s
 unrecorded_put told old p token s is is_open places keeps not = record {
@@ -136,6 +144,7 @@ unrecorded_put told old p token s is is_open places keeps not = record {
     whole true broken = rollback_put_broken told old.log old.busy s (close token.number s) token true is.whole moves broken
     whole false still = rollback_put_idle told old.log old.busy s (close token.number s) token true is.whole moves (let low = none (size_of_list (puts_of s token)) (λ some. not (some, still)) in omega (arith, low))
 
+-- a rollback of a take transaction without a record
 pub unrecorded_take : (told : Option Told) (old : Logged) (p : Places) (token : Token) (s : State) → IsStateOf told old s → true ≡ is_some_of (takes_of s token) → ((settled known : Known) → Looks settled known old.places s → Looks settled known p (close token.number s)) → KeepsPuts old.places.opened p.opened → ((0 < size_of_list (takes_of s token)) × (s.broken ≡ false) → ⊥)
     → Steps told told old (record old { places = p }) (RollbackTake token true) s
 unrecorded_take told old p token s is is_open places keeps not = record {
@@ -157,6 +166,7 @@ unrecorded_take told old p token s is is_open places keeps not = record {
 pub stages_put : (s : State) (token : Token) (given : Ticket) → stage_put_refusal s (puts_of s token) ≡ None → given ≡ ticket s (next_number s) (size_of_list (puts_of s token)) → Moves true s (StagePut token (Ok given)) (after s (StagePut token (Ok given)))
 stages_put s token given may is = record { admitted = (may, is); state = refl }
 
+-- a take that may be staged is staged with its ticket
 pub stages_take : (s : State) (token : Token) (given : Ticket) → stage_take_refusal s (takes_of s token) ≡ None → given ≡ ticket s 0 (size_of_list (takes_of s token)) → Moves true s (StageTake token (Ok given)) (after s (StageTake token (Ok given)))
 stages_take s token given may is = record { admitted = (may, is); state = refl }
 
@@ -180,6 +190,7 @@ idle_put told old p token given s is moves places keeps idle =
       waits = staged_none given.count (length old.log.bytes) 21 idle;
     }
 
+-- a take transaction that took nothing is staged without a record
 pub idle_take : (told : Option Told) (old : Logged) (p : Places) (token : Token) (given : Ticket) (s : State) → IsStateOf told old s → Moves true s (StageTake token (Ok given)) (after s (StageTake token (Ok given))) → ((settled known : Known) → Looks settled known old.places s → Looks settled known p (after s (StageTake token (Ok given)))) → KeepsPuts old.places.opened p.opened → given.count ≡ 0
     → Steps told told old (record old { places = p }) (StageTake token (Ok given)) s
 idle_take told old p token given s is moves places keeps idle =
@@ -217,6 +228,7 @@ staged_put told old new token given rec s is moves places keeps some staged log 
       waits = longer ∙ staged_some given.count (length old.log.bytes) 21 (positive given.count some);
     }
 
+-- a take transaction that took something is staged with its record
 pub staged_take : (told : Option Told) (old new : Logged) (token : Token) (given : Ticket) (rec : Rec) (s : State) → IsStateOf told old s → (moves : Moves true s (StageTake token (Ok given)) (after s (StageTake token (Ok given)))) → ((settled known : Known) → Looks settled known old.places s → Looks settled known new.places (after s (StageTake token (Ok given)))) → KeepsPuts old.places.opened new.places.opened → (given.count ≡ 0 → ⊥)
     → (staged : StagedTakes s token given) → IsLogged told new.log new.busy (stage token.number (Some (Takes staged.numbers)) s) → Appends old.log new.log rec → length new.log.bytes ≡ length old.log.bytes + 13 → Steps told told old new (StageTake token (Ok given)) s
 staged_take told old new token given rec s is moves places keeps some staged log adds longer =
@@ -238,5 +250,6 @@ staged_take told old new token given rec s is moves places keeps some staged log
 pub refused_put : (told : Option Told) (old : Logged) (token : Token) (cause : StageCause) (s : State) → IsStateOf told old s → stage_put_refusal s (puts_of s token) ≡ Some cause → Steps told told old old (StagePut token (Err cause)) s
 refused_put told old token cause s is refused = record { admitted = refused; stands = is; waits = refl }
 
+-- a staging of takes that is refused leaves the channel as it was
 pub refused_take : (told : Option Told) (old : Logged) (token : Token) (cause : StageCause) (s : State) → IsStateOf told old s → stage_take_refusal s (takes_of s token) ≡ Some cause → Steps told told old old (StageTake token (Err cause)) s
 refused_take told old token cause s is refused = record { admitted = refused; stands = is; waits = refl }

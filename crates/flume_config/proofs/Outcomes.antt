@@ -7,6 +7,7 @@ use Rattle.plan_judging.specs.Agents.{is_agent}
 use Rattle.plan_judging.specs.Candidates.{Seen}
 use Rattle.agent_plan.specs.Plans.{Refuses, IsJudged, Plans}
 
+-- where an agent's texts were judged and refused, that refusal answers for its plan
 pub refuses_plan : (pairs : List Pair) (agent : List ℕ) (s : Seen) (e : PlanRefused) → is_agent pairs agent ≡ true → IsJudged pairs agent s → Refuses s e → Plans pairs agent (Err e)
 refuses_plan pairs agent s NoAgent there is h = absurd h
 refuses_plan pairs agent s (UnknownType l) there is h = (there, s, is, h)

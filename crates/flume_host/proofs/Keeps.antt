@@ -6,6 +6,7 @@ use Rattle.flume_host.specs.Folder.{with_at, FileState, MayBe, IsClear, Entry, G
 use Rattle.flume_host.proofs.Images.{same_name_is}
 use Rattle.flume_host.specs.Told.{Change, Make, Write, Sync, Remove, Call, On, Settle, entry_under, entry_after, file_after, under_way, left_by, read_by}
 
+-- a stable file may be found as it is
 pub maybe_itself : (bytes : List ℕ) → MayBe (stable bytes) bytes
 maybe_itself bytes = record { no_shorter = omega arith; no_longer = omega arith; same = λ i below clear. refl }
 
@@ -35,6 +36,7 @@ module _ (s : FileState) (was : List ℕ) (at : ℕ) (bytes : List ℕ) (may : M
   same i below (inl left, clear) = before i (omega (arith, below, may.no_shorter)) left ∙ may.same i below clear
   same i below (inr right, clear) = behind i (omega (arith, below, may.no_shorter)) right ∙ may.same i below clear
 
+  -- a file that is written over may be found with all that was written
   pub maybe_over : MayBe (touch at (length bytes) s) (over was at bytes)
   maybe_over = record {
     no_shorter = omega (arith, size, front, length-drop (at + length bytes) was, may.no_shorter);
@@ -74,6 +76,7 @@ synced Gone (Some was) allows = allows
 synced (There s) (Some was) allows = maybe_itself was
 synced (Unsure s) (Some was) allows = maybe_itself was
 
+-- what reads give of a file is what a crash may leave once it is settled
 pub settled : (reads : Option (List ℕ)) → Allows (settle_entry reads) reads
 settled None = tt
 settled (Some was) = maybe_itself was
@@ -110,6 +113,7 @@ module _ (files : Files) (folder : Folder) (reads : IsImage folder files) where
   keeps_under (On name change) = λ n. at_one name n (same_name n name) refl (entry_under change (folder name)) (under_one change (folder name) (files name) (reads name))
   keeps_under Settle = reads
 
+  -- after a call that was done, what reads give is one of the images
   pub keeps_done : (call : Call) → IsImage (left_by call files folder) (read_by call files)
   keeps_done (On name change) = λ n. here_or_there (same_name n name) _ _ _ _ (after_one change (folder name) (files name) (reads name)) (reads n)
   keeps_done Settle = λ n. settled (files n)

@@ -21,6 +21,7 @@ talks_none told = tells_same told (Talks [] [] 0) (λ t _. record { gave = sym (
 pub talks_to : (found : ℕ) (a b c : Option LinkTold) (given taken given' taken' : List ℕ) (n m : ℕ) → Tells a b (Talks given taken n) → Tells b c (TalksTo found given' taken' m) → Tells a c (TalksTo found (given ++ given') (taken ++ taken') (n + m))
 talks_to found a b c given taken given' taken' n m = follows a b c (Talks given taken n) (TalksTo found given' taken' m) (TalksTo found (given ++ given') (taken ++ taken') (n + m)) (λ t u v _ _ _ first second. talks_both found given taken given' taken' n m t u v first second)
 
+-- what was given and taken over two talks, one after the other
 pub talks_then : (a b c : Option LinkTold) (given taken given' taken' : List ℕ) (n m : ℕ) → Tells a b (Talks given taken n) → Tells b c (Talks given' taken' m) → Tells a c (Talks (given ++ given') (taken ++ taken') (n + m))
 talks_then = talks_to 0
 
@@ -55,15 +56,19 @@ talks_still a b c given taken n = follows a b c (Talks given taken n) (Talks [] 
 
 -- ---- quiet reads
 
+-- without a call no read waited
 pub waited_none : (told : Option LinkTold) → Tells told told (Waited 0)
 waited_none told = tells_same told (Waited 0) (λ t _. omega arith)
 
+-- the reads that waited in some calls, and then in further ones
 pub waited_then : (a b c : Option LinkTold) (n m : ℕ) → Tells a b (Waited n) → Tells b c (Waited m) → Tells a c (Waited (n + m))
 waited_then a b c n m = follows a b c (Waited n) (Waited m) (Waited (n + m)) (λ t u v _ _ _ first second. omega (arith, first, second))
 
+-- a write that took bytes is no read that waited
 pub waited_wrote : (a b : Option LinkTold) (n : ℕ) (bytes : List ℕ) → Sends (Ok n) bytes a b → Tells a b (Waited 0)
 waited_wrote a b n bytes = tells_more a b (λ t u. u ≡ wrote (take n bytes) t) (Waited 0) (λ t u _ _ is. omega (arith, ap (λ (l : LinkTold). l.quiets) is))
 
+-- a call that failed is no read that waited
 pub waited_broke : (a b : Option LinkTold) → Tells a b (λ t u. u ≡ broke t) → Tells a b (Waited 0)
 waited_broke a b = tells_more a b (λ t u. u ≡ broke t) (Waited 0) (λ t u _ _ is. omega (arith, ap (λ (l : LinkTold). l.quiets) is))
 

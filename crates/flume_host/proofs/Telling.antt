@@ -2,9 +2,11 @@
 use Rattle.std.proofs.Common.{◌≡◌, Option, Some, None, refl, subst}
 use Rattle.flume_host.specs.Told.{Tells}
 
+-- two shown contents that are the same have the same in them
 pub some_same : {A : Type 0} (x y : A) → Some x ≡ Some y → x ≡ y
 some_same x y is = cc
 
+-- what shows nothing shows no contents
 pub silent : {A : Type 0} (x : A) → None ≡ Some x → ⊥
 silent x is = cc
 

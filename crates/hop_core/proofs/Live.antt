@@ -17,6 +17,7 @@ live_is (x ∷ xs) (suc number) = live_is xs number
 pub live_read : {A : Type 0} (list : List (Option A)) (number : ℕ) (x : Option A) → number < length list → x ≡ get_or list number x → live list number ≡ x
 live_read {A = A} list number x h e = live_is list number ∙ ap (λ (o : Option (Option A)). and_then o (λ y. y)) (slice_get_read list (length list) number x refl h e)
 
+-- past the end of a list none is alive
 pub live_past : {A : Type 0} (list : List (Option A)) (number : ℕ) → length list ≤ number → live list number ≡ None
 live_past {A = A} list number e = live_is list number ∙ ap (λ (o : Option (Option A)). and_then o (λ y. y)) (slice_get_past list number e)
 
@@ -34,15 +35,18 @@ alive_there {A = A} list number own a h e is alive =
     let none : None ≡ Some a = sym is ∙ (sym (live_read list number own h e) ∙ alive) in
     absurd (cc)
 
+-- where all end, none is alive at any place
 pub ended_is : {A : Type 0} (list : List (Option A)) → ended list ≡ map (λ x. None) list
 ended_is [] = refl
 ended_is {A = A} (x ∷ xs) = ap (λ (l : List (Option A)). None ∷ l) (ended_is xs)
 
+-- of the works that are left, each is looked at alone: one with such an entry ends
 pub works_left : (channel place : ℕ) (works : List (Option Work)) → without_works channel place works ≡ map (unless_from channel place) works
 works_left channel place [] = refl
 works_left channel place (None ∷ works) = ap (λ (l : List (Option Work)). None ∷ l) (works_left channel place works)
 works_left channel place (Some w ∷ works) = ap (λ (l : List (Option Work)). unless_from channel place (Some w) ∷ l) (works_left channel place works)
 
+-- of the attempts that are left, each is looked at alone: one of the channel ends
 pub attempts_left : (channel : ℕ) (attempts : List (Option Attempt)) → without_attempts channel attempts ≡ map (unless_of channel) attempts
 attempts_left channel [] = refl
 attempts_left channel (None ∷ attempts) = ap (λ (l : List (Option Attempt)). None ∷ l) (attempts_left channel attempts)

@@ -20,12 +20,14 @@ use Rattle.hop_core.specs.Refusals.{is_begin_refusal, is_put_refusal, is_take_re
 
 -- the refusals are those of the state
 
+-- a begin is refused as the state says, except when out of memory
 pub begin_refused : (s : State) (refused : BeginRefused) → AdmitsBegin s (Err refused) → is_begin_refusal refused ≡ true → begin_refusal s ≡ Some refused
 begin_refused s Begin.NoMemory h is = absurd (cc)
 begin_refused s Begin.Broken h is = h
 begin_refused s (Begin.TooManyOpen held) h is = h
 begin_refused s (Begin.Spent counter) h is = h
 
+-- a put is refused as the state says, unless memory, the disk or a count is the cause
 pub put_refused : (s : State) (puts : Option (List Content)) (e : Content) (refused : PutRefused) → AdmitsPut s puts e (Err refused) → is_put_refusal refused ≡ true → put_refusal s puts e ≡ Some refused
 put_refused s puts e PutNo.NoMemory h is = absurd (cc)
 put_refused s puts e PutNo.DiskFault h is = absurd (cc)
@@ -36,6 +38,7 @@ put_refused s puts e (PutNo.TxnFull count) h is = h
 put_refused s puts e (PutNo.TooLarge size) h is = h
 put_refused s puts e (PutNo.Full count) h is = h
 
+-- a take of a stale token, a broken channel or a full transaction is refused as the state says
 pub take_refused : (s : State) (takes : Option (List ℕ)) (refused : TakeRefused) → AdmitsTake true s takes (Err refused) → is_take_refusal refused ≡ true → take_refusal s takes ≡ Some refused
 take_refused s takes TakeNo.Stale h is = h
 take_refused s takes TakeNo.Broken h is = h
@@ -48,14 +51,17 @@ take_refused s takes (TakeNo.Spent counter) h is = absurd (cc)
 
 -- a put that was done goes on with the others, and one that is refused ends them
 
+-- a put that was done without a spill goes on with the others
 pub put_goes_on : (s s' : State) (token : Token) (e : Content) (events : List Content) (done : PutDone) → Moves true s (Put token e (Ok done)) s' → done.spilled ≡ false → put_all s token (e ∷ events) ≡ put_all s' token events
 put_goes_on s s' token e events done moves spills =
     let next : s' ≡ after_put s token (puts_of s token) e (Ok (record { spilled = false })) = moves.state ∙ ap (λ (b : Bool). add_put (settle_if b s) token.number (puts_of s token) e) spills in
     rw (moves.admitted.0) (ap (λ (t : State). put_all t token events) (sym next))
 
+-- a put that the state refuses ends them all
 pub put_ends : (s s' : State) (token : Token) (e : Content) (events : List Content) (refused : PutRefused) → Moves true s (Put token e (Err refused)) s' → is_put_refusal refused ≡ true → put_all s token (e ∷ events) ≡ None
 put_ends s s' token e events refused moves is = rw (put_refused s (puts_of s token) e refused moves.admitted is) refl
 
+-- a put without a spill leaves the journal as it was
 pub put_kept : (old new : Journaled) (token : Token) (e : Content) (done : PutDone) → Journals old (Put token e (Ok done)) new → done.spilled ≡ false → new.journal ≡ old.journal
 put_kept old new token e done j spills = j.journal ∙ (rw spills (append-nil old.journal))
 
@@ -67,6 +73,7 @@ added_rules : (s : State) (number : ℕ) (puts : Option (List Content)) (e : Con
 added_rules s number None e = refl
 added_rules s number (Some events) e = refl
 
+-- a put leaves the rules as they are
 pub put_rules : (s s' : State) (token : Token) (e : Content) (done : PutDone) → Moves true s (Put token e (Ok done)) s' → s'.rules ≡ s.rules
 put_rules s s' token e done moves = ap (λ (t : State). t.rules) moves.state ∙ (added_rules (settle_if done.spilled s) token.number (puts_of s token) e ∙ settled_rules done.spilled s)
 

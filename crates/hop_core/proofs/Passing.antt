@@ -28,6 +28,7 @@ passed_here node work cs place h is =
     ∙ (ap (λ (b : Bool). (is_empty (share node work.made place) || b) && is_passed_by node work (place + 1) (drop (place + 1) cs)) is
     ∙ ap (λ (b : Bool). b && is_passed_by node work (place + 1) (drop (place + 1) cs)) (or_true (is_empty (share node work.made place))))
 
+-- the channel has nothing to take, and so the work goes past it
 pub empty_here : (node : Node) (work : Work) (cs : List Channel) (place : ℕ) → place < length cs → is_empty (share node work.made place) ≡ true → is_passed_by node work place (drop place cs) ≡ is_passed_by node work (place + 1) (drop (place + 1) cs)
 empty_here node work cs place h is = stepped node work cs place h ∙ ap (λ (b : Bool). (b || is_passed work place) && is_passed_by node work (place + 1) (drop (place + 1) cs)) is
 

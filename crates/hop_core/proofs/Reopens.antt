@@ -28,6 +28,7 @@ joins : (front : List Channel) (new : Channel) (rest : Option (List Channel)) �
 joins front new None = refl
 joins front new (Some rest) = ap (λ (l : List Channel). Some l) (sym (append_assoc front (new ∷ []) rest))
 
+-- one more channel was opened again, and joins those before it
 pub one_joins : (kept : List ℕ) (channels front : List Channel) (place k : ℕ) (c new : Channel) → slice_get kept place ≡ Some k → slice_get channels place ≡ Some c → reopened k c ≡ Some new
     → with_front front (all_reopened (drop place kept) (drop place channels)) ≡ with_front (front ++ new ∷ []) (all_reopened (drop (place + 1) kept) (drop (place + 1) channels))
 one_joins kept channels front place k c new number channel done =

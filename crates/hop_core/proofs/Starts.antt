@@ -33,6 +33,7 @@ node_is_new plan = record {
   channels = λ place c is. each_made new_channel IsNewChannel channel_is_new plan.channels.items place c is;
 }
 
+-- the world of a plan has nothing sent, and all of its nodes are new
 pub world_is_new : (plan : WorldPlan) → IsNew (new_world plan)
 world_is_new plan = record {
   sent = refl;

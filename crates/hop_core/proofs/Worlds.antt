@@ -28,6 +28,7 @@ pub at_sent : (w : World) (number : ℕ) (old new : Node) (f : Node → Option (
     → sent ≡ w.sent ++ packet ∷ [] → at w number f ≡ Some (record { nodes = slice_set w.nodes number new; sent = sent })
 at_sent w number old new f packet sent there did more = rw (there, did, more) refl
 
+-- where a node can't take a step, its world can't
 pub at_none : (w : World) (number : ℕ) (old : Node) (f : Node → Option (Node × List Packet)) → slice_get w.nodes number ≡ Some old → f old ≡ None → at w number f ≡ None
 at_none w number old f there none = rw (there, none) refl
 
@@ -51,16 +52,19 @@ offered_is w number tag batch sent h fresh more =
 
 -- what the answer of a step says
 
+-- the answer says whether the step could be taken
 pub did_taken : {A : Type 0} (goal : Option A) (old new : A) (result : Result Bool NoMemory) → Did goal old result new → IfOk result (λ taken. taken ≡ is_some goal)
 did_taken goal old new (Ok true) did = rw did refl
 did_taken goal old new (Ok false) did = rw (did.0) refl
 did_taken goal old new (Err refused) did = tt
 
+-- the world is the next one, or the same where the step can't be taken
 pub did_next : (goal : Option World) (old new : World) (result : Result Bool NoMemory) → Did goal old result new → OnOk result (new ≡ next old goal)
 did_next goal old new (Ok true) did = rw did refl
 did_next goal old new (Ok false) did = rw (did.0) (did.1)
 did_next goal old new (Err refused) did = tt
 
+-- out of memory, all stays as it was
 pub did_same : {A : Type 0} (goal : Option A) (old new : A) (result : Result Bool NoMemory) → Did goal old result new → OnErr result (new ≡ old)
 did_same goal old new (Ok true) did = tt
 did_same goal old new (Ok false) did = tt

@@ -15,12 +15,15 @@ name_of file = file.name
 abbrev bytes_of : MemFile → Option (List ℕ)
 bytes_of file = Some file.bytes.items
 
+-- where no earlier file has the name and this one has it, it is at this place
 pub place_found : (files : List MemFile) (name : FileName) (i : ℕ) (d : MemFile) → i < length files → place (take i files) name ≡ None → same_name name (get_or files i d).name ≡ true → place files name ≡ Some i
 place_found = look.place_found same_name same_name_is same_name_self name_of bytes_of None
 
+-- where no earlier file has the name and this one neither, none up to it has
 pub place_more : (files : List MemFile) (name : FileName) (i : ℕ) (d : MemFile) → i < length files → place (take i files) name ≡ None → same_name name (get_or files i d).name ≡ false → place (take (suc i) files) name ≡ None
 place_more = look.place_more same_name same_name_is same_name_self name_of bytes_of None
 
+-- a name that has no place has no file
 pub not_placed : (files : List MemFile) (name : FileName) → place files name ≡ None → files_of files name ≡ None
 not_placed = look.not_placed same_name same_name_is same_name_self name_of bytes_of None
 
@@ -29,6 +32,7 @@ pub record Placed (files : List MemFile) (name : FileName) (i : ℕ) : Type 0 wh
   pub found : (d : MemFile) → files_of files name ≡ Some (get_or files i d).bytes.items
   pub named : (d : MemFile) → (get_or files i d).name ≡ name
 
+-- at the place of a name there is its file
 pub placed : (files : List MemFile) (name : FileName) (i : ℕ) → place files name ≡ Some i → Placed files name i
 placed files name i is = let p = look.placed same_name same_name_is same_name_self name_of bytes_of None files name i is in record { below = p.below; found = p.found; named = p.named }
 
@@ -60,6 +64,7 @@ files_of-more files copies file copy same named equal = λ i n. (appended files 
     appended [] f n = refl
     appended (x ∷ xs) f n = first (same_name n x.name) x.bytes.items (files_of xs n) (files_of (f ∷ []) n) (files_of (xs ++ f ∷ []) n) (appended xs f n)
 
+-- a read at the place of a name gives the bytes that its file had
 pub place_read : (files : List MemFile) (name : FileName) (was : List ℕ) → files_of files name ≡ Some was → (i : ℕ) (file : MemFile) → place files name ≡ Some i → file ≡ get_or files i file → was ≡ file.bytes.items
 place_read files name was had i file is read =
     let found = (placed files name i is).found file in

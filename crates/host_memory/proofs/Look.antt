@@ -52,6 +52,7 @@ module _ {A K V : Type 0} (same : K → K → Bool) (same_is : (a b : K) → sam
       let itself : same k m ≡ true = let P : K → Type 0 = λ x. same k x ≡ true in subst P equal (same_self k) in
       cc
 
+  -- where no earlier item has the key and this one has it, it is at this place
   pub place_found : (items : List A) (k : K) (i : ℕ) (d : A) → i < length items → place (take i items) k ≡ None → same k (key (get_or items i d)) ≡ true → place items k ≡ Some i
   place_found [] k i d below none is = absurd (omega (arith, below))
   place_found (x ∷ xs) k zero d below none is = ap (λ (b : Bool). cond b (Some 0) (option_map (λ i. suc i) (place xs k))) is
@@ -60,6 +61,7 @@ module _ {A K V : Type 0} (same : K → K → Bool) (same_is : (a b : K) → sam
       let later = place_found xs k i d (omega (arith, below)) (map_none (place (take i xs) k) parts.1) is in
       ap (λ (b : Bool). cond b (Some 0) (option_map (λ i. suc i) (place xs k))) parts.0 ∙ ap (λ (o : Option ℕ). option_map (λ i. suc i) o) later
 
+  -- where no earlier item has the key and this one neither, none up to it has
   pub place_more : (items : List A) (k : K) (i : ℕ) (d : A) → i < length items → place (take i items) k ≡ None → same k (key (get_or items i d)) ≡ false → place (take (suc i) items) k ≡ None
   place_more [] k i d below none isnt = absurd (omega (arith, below))
   place_more (x ∷ xs) k zero d below none isnt = ap (λ (b : Bool). cond b (Some 0) None) isnt
@@ -80,6 +82,7 @@ module _ {A K V : Type 0} (same : K → K → Bool) (same_is : (a b : K) → sam
     pub found : (d : A) → look items k ≡ value (get_or items i d)
     pub named : (d : A) → key (get_or items i d) ≡ k
 
+  -- at the place of a key there is its item, which the search finds
   pub placed : (items : List A) (k : K) (i : ℕ) → place items k ≡ Some i → Placed items k i
   placed [] k i is = cc
   placed (x ∷ xs) k i is = elim (cond_some (same k (key x)) (option_map (λ i. suc i) (place xs k)) i is) [
@@ -115,6 +118,7 @@ module _ {A K V : Type 0} (same : K → K → Bool) (same_is : (a b : K) → sam
         ∙ swapped (same n (key x)) (same n k) (value x) (value item) (look xs n) (apart n k (key x) there.0)
   ]
 
+  -- and every key has the place that it had
   pub place-set : (items : List A) (k : K) (i : ℕ) (item : A) → place items k ≡ Some i → key item ≡ k → (n : K) → place (set items i item) n ≡ place items n
   place-set [] k i item is named n = cc
   place-set (x ∷ xs) k i item is named n = elim (cond_some (same k (key x)) (option_map (λ i. suc i) (place xs k)) i is) [
@@ -141,6 +145,7 @@ module _ {A K V : Type 0} (same : K → K → Bool) (same_is : (a b : K) → sam
   place-push-other [] item n differ = ap (λ (b : Bool). cond {A = Option ℕ} b (Some 0) None) differ
   place-push-other (x ∷ xs) item n differ = ap (λ (o : Option ℕ). cond (same n (key x)) (Some 0) (option_map (λ i. suc i) o)) (place-push-other xs item n differ)
 
+  -- an item that was added can be found by its key
   pub place-pushed : (items : List A) (item : A) → IsSome (place (items ++ item ∷ []) (key item))
   place-pushed [] item = ap (λ (b : Bool). is_some {T = ℕ} (cond b (Some 0) None)) (same_self (key item))
   place-pushed (x ∷ xs) item = found (same (key item) (key x)) (place (xs ++ item ∷ []) (key item)) (place-pushed xs item)

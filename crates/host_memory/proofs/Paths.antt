@@ -6,12 +6,15 @@ use Rattle.host_memory.specs.Folders.{is_in, place_in, with_object, IsAt}
 use Rattle.host_memory.specs.Look.{look_up}
 use Rattle.host_memory.proofs.Look as look
 
+-- paths that compare alike are one
 pub path_is : (a b : List ℕ) → bytes_eq a b ≡ true → a ≡ b
 path_is a b = (bytes_eq-Decides a b).0
 
+-- a path compares alike with itself
 pub path_self : (a : List ℕ) → bytes_eq a a ≡ true
 path_self a = (bytes_eq-Decides a a).1 refl
 
+-- different paths do not compare alike
 pub path_other : (a b : List ℕ) → (a ≡ b → ⊥) → bytes_eq a b ≡ false
 path_other a b differ = by_cases (bytes_eq a b) refl
   where
@@ -26,15 +29,19 @@ module _ {T : Type 0} where
   abbrev nothing_of : Named T → Unit {0}
   nothing_of named = tt
 
+  -- where no earlier object has the path and this one has it, it is at this place
   pub place_found : (objects : List (Named T)) (path : List ℕ) (i : ℕ) (d : Named T) → i < length objects → place_in (take i objects) path ≡ None → bytes_eq path (string_bytes (get_or objects i d).path) ≡ true → place_in objects path ≡ Some i
   place_found = look.place_found bytes_eq path_is path_self name_of nothing_of tt
 
+  -- where no earlier object has the path and this one neither, none up to it has
   pub place_more : (objects : List (Named T)) (path : List ℕ) (i : ℕ) (d : Named T) → i < length objects → place_in (take i objects) path ≡ None → bytes_eq path (string_bytes (get_or objects i d).path) ≡ false → place_in (take (suc i) objects) path ≡ None
   place_more = look.place_more bytes_eq path_is path_self name_of nothing_of tt
 
+  -- an object that is added leaves each other path its place
   pub place-push-other : (objects : List (Named T)) (named : Named T) (p : List ℕ) → (p ≡ string_bytes named.path → ⊥) → place_in (objects ++ named ∷ []) p ≡ place_in objects p
   place-push-other objects named p differ = look.place-push-other bytes_eq path_is path_self name_of nothing_of tt objects named p (path_other p (string_bytes named.path) differ)
 
+  -- an object that was added can be found by its path
   pub place-pushed : (objects : List (Named T)) (named : Named T) → IsSome (place_in (objects ++ named ∷ []) (string_bytes named.path))
   place-pushed = look.place-pushed bytes_eq path_is path_self name_of nothing_of tt
 
@@ -54,9 +61,11 @@ module _ {T V : Type 0} (home : Option T → V) (other : V) where
     pub found : (d : Named T) → told_at objects path ≡ home (get_or objects i d).object
     pub named : (d : Named T) → string_bytes (get_or objects i d).path ≡ path
 
+  -- at the place of a path there is its object
   pub placed : (objects : List (Named T)) (path : List ℕ) (i : ℕ) → place_in objects path ≡ Some i → Placed objects path i
   placed objects path i is = let p = look.placed bytes_eq path_is path_self path_of home_of other objects path i is in record { below = p.below; found = p.found; named = p.named }
 
+  -- of a path that has no place nothing is shown
   pub not_placed : (objects : List (Named T)) (path : List ℕ) → place_in objects path ≡ None → told_at objects path ≡ other
   not_placed = look.not_placed bytes_eq path_is path_self path_of home_of other
 
@@ -65,6 +74,7 @@ module _ {T V : Type 0} (home : Option T → V) (other : V) where
       → (p : List ℕ) → told_at (set objects i (with_object was object)) p ≡ cond (bytes_eq p path) (home object) (told_at objects p)
   told-set objects path i was object is at = look.look-set bytes_eq path_is path_self path_of home_of other objects path i (with_object was object) is (ap (λ (n : Named T). string_bytes n.path) at ∙ (placed objects path i is).named was)
 
+  -- and every path has the place that it had
   pub place-set : (objects : List (Named T)) (path : List ℕ) (i : ℕ) (was : Named T) (object : Option T) → place_in objects path ≡ Some i → IsAt objects i was
       → (p : List ℕ) → place_in (set objects i (with_object was object)) p ≡ place_in objects p
   place-set objects path i was object is at = look.place-set bytes_eq path_is path_self path_of home_of other objects path i (with_object was object) is (ap (λ (n : Named T). string_bytes n.path) at ∙ (placed objects path i is).named was)
@@ -84,6 +94,7 @@ module _ {T V : Type 0} (home : Option T → V) (other : V) where
     pub opened : IsSome (place_in new path)
     pub others_opened : (p : List ℕ) → (p ≡ path → ⊥) → is_some (place_in new p) ≡ is_some (place_in objects p)
 
+  -- an object is handed out from its place
   pub taken : (objects new : List (Named T)) (path : List ℕ) (i : ℕ) (was : Named T) → place_in objects path ≡ Some i → IsAt objects i was → new ≡ set objects i (with_object was None)
       → Out objects new path (home was.object)
   taken objects new path i was is at new_is = record {
@@ -93,6 +104,7 @@ module _ {T V : Type 0} (home : Option T → V) (other : V) where
     others_opened = λ p differ. ap (λ (l : List (Named T)). is_some (place_in l p)) new_is ∙ ap is_some (place-set objects path i was None is at p);
   }
 
+  -- an object is added of a path of which nothing was told, and the others are as before
   pub added : (objects new : List (Named T)) (path : List ℕ) (named : Named T) → place_in objects path ≡ None → string_bytes named.path ≡ path → new ≡ objects ++ named ∷ [] → Out objects new path other
   added objects new path named none named_is new_is = record {
     told = not_placed objects path none;
@@ -107,6 +119,7 @@ module _ {T V : Type 0} (home : Option T → V) (other : V) where
     pub others : (p : List ℕ) → (p ≡ path → ⊥) → told_at new p ≡ told_at objects p
     pub opened : (p : List ℕ) → is_some (place_in new p) ≡ is_some (place_in objects p)
 
+  -- an object is given back at its path's place
   pub given : (objects new : List (Named T)) (path : List ℕ) (i : ℕ) (was : Named T) (object : T) → place_in objects path ≡ Some i → IsAt objects i was → new ≡ set objects i (with_object was (Some object))
       → Back objects new path (home (Some object))
   given objects new path i was object is at new_is = record {

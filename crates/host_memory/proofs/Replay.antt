@@ -17,6 +17,7 @@ use Rattle.host_memory.specs.declared.parts.Outcome.TheVariants.{Whole, Partly, 
 use Rattle.host_memory.specs.Parts.{files_of, place, call_of, front_of, part_after, answer_of, step, step_by, run, start, told_of, told_by}
 use Rattle.host_memory.proofs.Files.{files_of-set, files_of-push, files_of-filter, other_than, placed, not_placed}
 
+-- a run of calls with one more at the end is a step after the run
 pub run-push : (t : Told) (calls : List MemCall) (call : MemCall) → run t (calls ++ call ∷ []) ≡ step call (run t calls)
 run-push t [] call = refl
 run-push t (c ∷ calls) call = run-push (step c t) calls call
@@ -37,6 +38,7 @@ quiet_sync Whole name t = with_at_same t.reads name
 quiet_sync (Partly n) name t = with_at_same t.reads name
 quiet_sync Nothing name t = refl
 
+-- a settle changes nothing that reads give
 pub quiet_settle : (outcome : Outcome) (t : Told) → (step_by outcome Settle t).reads ≡ t.reads
 quiet_settle Whole t = refl
 quiet_settle (Partly n) t = refl
@@ -67,6 +69,7 @@ module _ (t : Told) (files : List MemFile) (agrees : files_of files ≡ t.reads)
   at_name : files_of files name ≡ t.reads name
   at_name = ap (λ (f : Files). f name) agrees
 
+  -- a file that was made, wholly or in part, is read as an empty one
   pub made : (file : MemFile) → (outcome ≡ Nothing → ⊥) → place files name ≡ None → file.name ≡ name → file.bytes.items ≡ [] → files_of (files ++ file ∷ []) ≡ (step_by outcome (On name Make) t).reads
   made file some absent named empty =
       let none : files_of files name ≡ None = not_placed files name absent in
@@ -77,6 +80,7 @@ module _ (t : Told) (files : List MemFile) (agrees : files_of files ≡ t.reads)
       ∙ ap (λ (b : List ℕ). with_at t.reads name (Some b) n) empty) i)
       ∙ sym (made_reads outcome t name some (sym at_name ∙ none))
 
+  -- a write is read as the front of its bytes that was written
   pub wrote : (k : ℕ) (file : MemFile) (was : List ℕ) (at : ℕ) (bytes : List ℕ) → place files name ≡ Some k → file.name ≡ name → files_of files name ≡ Some was → at ≤ length was → file.bytes.items ≡ over was at (front_of outcome bytes)
       → files_of (set files k file) ≡ (step_by outcome (On name (Write at bytes)) t).reads
   wrote k file was at bytes placed named had within is =
@@ -85,6 +89,7 @@ module _ (t : Told) (files : List MemFile) (agrees : files_of files ≡ t.reads)
       ∙ ap (λ (b : List ℕ). with_at t.reads name (Some b) n) is) i)
       ∙ sym (wrote_reads outcome t name was at bytes (sym at_name ∙ had) within)
 
+  -- a file that was removed, wholly or in part, is read no more
   pub removed : (left : List MemFile) → (outcome ≡ Nothing → ⊥) → left ≡ filter (other_than name) files → files_of left ≡ (step_by outcome (On name Remove) t).reads
   removed left some is =
       ap (λ (l : List MemFile). files_of l) is

@@ -4,6 +4,7 @@ use Rattle.flume_host.specs.Rolled.{RollFile, GrewBy, IsNewName}
 use Rattle.host_memory.specs.declared.mem_roll.RolledFile.{RolledFile}
 use Rattle.host_memory.specs.Rolls.{file_by, files_by}
 
+-- the files of two lists in one are those of the first and then those of the second
 pub files_by-append : (xs ys : List RolledFile) → files_by (xs ++ ys) ≡ files_by xs ++ files_by ys
 files_by-append [] ys = refl
 files_by-append (x ∷ xs) ys = ap (λ (l : List RollFile). file_by x ∷ l) (files_by-append xs ys)
@@ -19,11 +20,13 @@ grew (x ∷ []) zero was now bytes is at file = record { front = []; last = file
 grew (x ∷ y ∷ ys) zero was now bytes is at file = absurd (omega (arith, is))
 grew (x ∷ xs) (suc last) was now bytes is at file = grew_behind (file_by x) bytes (files_by xs) (files_by (set xs last now)) (grew xs last was now bytes (omega (arith, is)) at file)
 
+-- a name that none of the first files has, nor the next one, none of those has
 pub new_more : (files : List RolledFile) (i : ℕ) (d : RolledFile) (name : List ℕ) → i < length files → IsNewName (files_by (take i files)) name → (string_bytes (get_or files i d).name ≡ name → ⊥) → IsNewName (files_by (take (suc i) files)) name
 new_more [] i d name below before differs = absurd (omega (arith, below))
 new_more (x ∷ xs) zero d name below before differs = (differs, tt)
 new_more (x ∷ xs) (suc i) d name below before differs = (before.0, new_more xs i d name (omega (arith, below)) before.1 differs)
 
+-- a name that some file has is not new
 pub not_new : (files : List RolledFile) (i : ℕ) (d : RolledFile) (name : List ℕ) → i < length files → string_bytes (get_or files i d).name ≡ name → IsNewName (files_by files) name → ⊥
 not_new [] i d name below same new = omega (arith, below)
 not_new (x ∷ xs) zero d name below same new = new.0 same

@@ -62,6 +62,7 @@ kept_one stood Sync (Some bytes) (There s) file gives allows = maybe_itself byte
 kept_one stood Sync (Some bytes) (Unsure s) file gives allows = maybe_itself bytes
 kept_one stood Remove reads entry file gives allows = tt
 
+-- an image torn by a call under way is one that a crash may leave then
 pub torn_left : (stood : Stood) (call : Call) (folder : Folder) (image : Files) → IsImage folder image → IsImage (under_way call folder) (image_torn stood call image)
 torn_left stood (On name change) folder image left = λ m. here_or_there (same_name m name) (entry_under change (folder name)) (folder m) (torn stood change (image name)) (image m) (torn_one stood change (folder name) (image name) (left name)) (left m)
 torn_left stood Settle folder image left = left
@@ -70,11 +71,13 @@ kept_left : (stood : Stood) (call : Call) (t : Told) (image : Files) → IsSound
 kept_left stood (On name change) t image sound left = λ m. here_or_there (same_name m name) (entry_after change (t.reads name) (t.now name)) (t.now m) (kept stood change (t.reads name) (image name)) (image m) (kept_one stood change (t.reads name) (t.now name) (image name) (sound name) (left name)) (left m)
 kept_left stood Settle t image sound left = λ n. settled (t.reads n)
 
+-- an image that is changed by a call's outcome is one that a crash may leave after it
 pub image_left : (outcome : Outcome) (stood : Stood) (call : Call) (t : Told) (image : Files) → IsSound t → IsImage t.now image → IsImage (step_by outcome call t).now (image_by outcome stood call t.reads image)
 image_left Whole stood call t image sound left = kept_left stood call t image sound left
 image_left (Partly n) stood call t image sound left = torn_left stood call t.now image left
 image_left Nothing stood call t image sound left = torn_left stood call t.now image left
 
+-- what reads give after a call is what its outcome makes of what they gave
 pub reads_step : (outcome : Outcome) (call : Call) (t : Told) → (step_by outcome call t).reads ≡ reads_by outcome call t.reads
 reads_step Whole call t = refl
 reads_step (Partly n) call t = refl
@@ -89,6 +92,7 @@ past_step Nothing call t = refl
 past_grows : (outcome : Outcome) (call : Call) (t : Told) → length (step_by outcome call t).past ≡ length t.past + 1
 past_grows outcome call t = omega (arith, ap length (past_step outcome call t), length-append t.past (under_way call t.now ∷ []))
 
+-- each call of a run adds one folder to the past
 pub past_length : (t : Told) (calls : List MemCall) → length (run t calls).past ≡ length t.past + length calls
 past_length t [] = omega arith
 past_length t (call ∷ calls) = omega (arith, past_length (step call t) calls, past_grows call.outcome (call_of call.change) t)

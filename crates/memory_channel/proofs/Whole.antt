@@ -82,6 +82,7 @@ after_call s (Checkpoint reply) may memory = no_file s memory may.1 (IsInMemory 
 after_call s (Prune reply) may memory = no_file s memory may.1 (IsInMemory (after s (Prune reply)))
 after_call s (Reopen reply) may memory = no_file s memory may.1 (IsInMemory (after s (Reopen reply)))
 
+-- a channel in memory stays so, whatever the call
 pub stays : (old : State) (call : Call) (new : State) → Moves true old call new → IsInMemory old → IsInMemory new
 stays old call new moves memory = subst IsInMemory (sym moves.state) (after_call old call moves.admitted memory)
 
@@ -92,6 +93,7 @@ begun_so true c is = absurd (cc)
 begun_so false true is = absurd (cc)
 begun_so false false is = absurd (cc)
 
+-- in memory, only the allowed causes refuse a begin
 pub begin_refused : (s : State) (e : BeginRefused) → IsInMemory s → AdmitsBegin s (Err e) → MayRefuseBegin e
 begin_refused s Begin.Broken memory may = begun_so (nat_le 1024 (length s.opened)) (nat_le (2 ^ 64 - 1) s.txn) (rw memory.whole at may)
 begin_refused s (Begin.TooManyOpen held) memory may = tt
@@ -110,6 +112,7 @@ put_spent : (s : State) (puts : Option (List Content)) (event : Content) (counte
 put_spent s None event counter memory may = may
 put_spent s (Some events) event counter memory may = no_file s memory may.2 ⊥
 
+-- in memory, only the allowed causes refuse a put
 pub put_refused : (s : State) (puts : Option (List Content)) (event : Content) (e : PutRefused) → IsInMemory s → AdmitsPut s puts event (Err e) → MayRefusePut e
 put_refused s puts event PutNo.Stale memory may = tt
 put_refused s puts event PutNo.Broken memory may = put_says s puts event PutNo.Broken memory may
@@ -120,5 +123,6 @@ put_refused s puts event (PutNo.Full count) memory may = put_says s puts event (
 put_refused s puts event PutNo.DiskFault memory may = no_file s memory may.1 ⊥
 put_refused s puts event PutNo.NoMemory memory may = tt
 
+-- a channel that is opened in memory begins whole
 pub begins_whole : (o : Opening) (s : State) → s ≡ opening o → o.rules.kind ≡ InMemory → IsInMemory s
 begins_whole o s is kind = rw is (record { kind = kind; whole = refl })

@@ -39,6 +39,7 @@ pub when_ok : (r : Result (Unit {0}) NoMemory) (P Q : Type 0) → (P → Q) → 
 when_ok (Ok done) P Q maps is = maps is
 when_ok (Err e) P Q maps is = tt
 
+-- what a change says where there was no memory for it may be told in other words
 pub when_err : (r : Result (Unit {0}) NoMemory) (P Q : Type 0) → (P → Q) → OnErr r P → OnErr r Q
 when_err (Ok done) P Q maps is = tt
 when_err (Err e) P Q maps is = maps is

@@ -152,6 +152,7 @@ adds_later s w (v ∷ vs) =
     ∙ ap (λ t. with_line t (later w vs)) (adds_clash s w v)
     ∙ line_and_line s (both w v) (later w vs)
 
+-- all clashes count as one, on the least line of them
 pub adds_clashes : (s : Seen) (ws : List Wish) → adds s (clashes ws) ≡ with_line s (least_clash ws)
 unfolding adds
 adds_clashes s [] = refl
@@ -183,6 +184,7 @@ abbrev pub least_line : ℕ → List ℕ → ℕ → List Wish → Option ℕ
 least_line kind text number [] = None
 least_line kind text number (v ∷ vs) = lesser (line_if (is_same kind text number v) v.line) (least_line kind text number vs)
 
+-- the least line of a claim among others and one more
 pub line_more : (kind : ℕ) (text : List ℕ) (number : ℕ) (ps : List Wish) (w : Wish) → least_line kind text number (ps ++ w ∷ []) ≡ lesser (least_line kind text number ps) (line_if (is_same kind text number w) w.line)
 line_more kind text number [] w = lesser_none _
 line_more kind text number (p ∷ ps) w =
@@ -225,6 +227,7 @@ one_more_claim start ps w first is =
     ∙ ap (λ o. with_line start (lesser (least_clash ps) o)) (sym (earlier_is w ps))
     ∙ ap (with_line start) (sym (least_more ps w))
 
+-- the lesser of a line that may have been seen and a new one
 pub lesser_line : (first : Option ℕ) (line : ℕ) → Some (least_with first line) ≡ lesser first (Some line)
 lesser_line None line = refl
 lesser_line (Some first) line = refl
@@ -240,12 +243,14 @@ same_keys x y = (x.0 == y.0 && bytes_eq x.1.now y.1.now) && x.2 == y.2
 pub record HasLines {S : Type 0} (table : IndexMap Key ℕ S) (ws : List Wish) : Type 0 where
   pub each : (q : Key) → get same_keys table q ≡ least_line q.0 q.1.now q.2 ws
 
+-- an empty table has the lines of no claims
 pub no_lines : {S : Type 0} (table : IndexMap Key ℕ S) → table.entries ≡ [] → HasLines table []
 no_lines table none = record { each = λ q. ap (λ es. get_in es q) none }
   where
     get_in : List (Key × ℕ) → Key → Option ℕ
     get_in es q = lookup (same_keys q) es
 
+-- a table that took in one more claim has the least lines of all
 pub lines_go_on : {S : Type 0} (old new : IndexMap Key ℕ S) (ws : List Wish) (w : Wish) (key : Key) (line : ℕ) → key.0 ≡ code w.what → key.1.now ≡ w.text → key.2 ≡ w.number → line ≡ least_with (get same_keys old key) w.line → Updates same_keys old new key (Some line) → HasLines old ws → HasLines new (ws ++ w ∷ [])
 lines_go_on {S} old new ws w key line kind text number is updates before = record { each = at }
   where

@@ -11,6 +11,7 @@ use Rattle.plan_judging.specs.Words.{is_word, comma_pieces, trimmed_names, liste
 use Rattle.plan_judging.proofs.Joins.{drop_from_get}
 use Rattle.plan_judging.proofs.WordSteps.{with_front-nil, with_front-with_front, front_kept}
 
+-- an empty front before a list with commas changes no piece of it
 pub comma_front : (bs : List ℕ) → with_front [] (comma_pieces bs) ≡ comma_pieces bs
 comma_front [] = refl
 comma_front (b ∷ bs) =
@@ -38,6 +39,7 @@ comma_goes text piece i names whole lt h was =
     let read = ap comma_pieces (drop_more text i 0 lt) ∙ cond-false (get_or text i 0 == 44) _ _ h in
     sym (ap (λ (x : List (List ℕ)). names ++ trimmed_names x) (ap (with_front piece) read ∙ with_front-with_front piece (get_or text i 0) rest)) ∙ was
 
+-- before the first byte the names that are to come are those of the list
 pub comma_begins : (text : List ℕ) (names : List (List ℕ)) → names ++ trimmed_names (with_front [] (comma_pieces text)) ≡ names ++ listed text
 comma_begins text names = ap (λ (x : List (List ℕ)). names ++ trimmed_names x) (comma_front text)
 
@@ -52,12 +54,15 @@ pair_goes {B} f pairs n p old new whole there is was =
     ap (λ (x : List B). x ++ flat_map f (drop (n + 1) pairs)) is ∙ append_assoc old (f p) (flat_map f (drop (n + 1) pairs))
     ∙ sym (ap (λ (x : List Pair). old ++ flat_map f x) (drop_from_get pairs n p there)) ∙ was
 
+-- after the last pair all that the pairs give was gathered
 pub pairs_end : {B : Type 0} (f : Pair → List B) (pairs : List Pair) (n : ℕ) (old whole : List B) → length pairs ≤ n → old ++ flat_map f (drop n pairs) ≡ whole → old ≡ whole
 pairs_end {B} f pairs n old whole le was = sym (ap (λ (x : List Pair). old ++ flat_map f x) (drop_all n pairs le) ∙ append-nil old) ∙ was
 
+-- the byte of a comma is tested to be one
 pub is_comma : (b : ℕ) → b ≡ 44 → (b == 44) ≡ true
 is_comma b e = (Decides-eqb b 44).1 e
 
+-- any other byte is tested not to be one
 pub no_comma : (b : ℕ) → (b ≡ 44 → ⊥) → (b == 44) ≡ false
 no_comma b h = either (b == 44) refl
   where

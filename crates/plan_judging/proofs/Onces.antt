@@ -56,6 +56,7 @@ kept_first kept before (w ∷ ws) same =
     ∙ ap (λ l. kept ++ l) (sym (cond-false (is_among w before) _ _ f)))
     (cases_Bool (is_among w before))
 
+-- names that are kept one after another are each kept once, where they stand first
 pub kept_is_once : (ws : List (List ℕ)) → fold kept_with [] ws ≡ once ws
 kept_is_once ws = kept_first [] [] ws (λ x. refl)
 
@@ -150,5 +151,6 @@ first_are_fewer before (w ∷ ws) =
     ∙ sym (ap (λ b. (is_among w ws || has_twice ws) || (b || stands before ws)) f))
     (cases_Bool (is_among w before))
 
+-- names that are kept once are fewer exactly where one stands twice
 pub once_is_shorter : (ws : List (List ℕ)) → nat_lt (length (once ws)) (length ws) ≡ has_twice ws
 once_is_shorter ws = first_are_fewer [] ws ∙ ap (λ b. has_twice ws || b) (none_stands ws) ∙ or_false (has_twice ws)

@@ -35,13 +35,16 @@ passes max number i text lt digit kept over =
     let grows = decimal_behind_grows (drop (i + 1) text) (number * 10 + (b - 48)) n (sym step ∙ kept ∙ sym (behind_any text (omega arith)) ∙ e) in
     omega (arith, grows))
 
+-- bytes before a list whose first piece is empty are its first piece
 pub with_front-nil : (xs : List ℕ) (ls : List (List ℕ)) → with_front xs ([] ∷ ls) ≡ xs ∷ ls
 with_front-nil xs ls = ap (λ (x : List ℕ). x ∷ ls) (append-nil xs)
 
+-- one byte before a list and bytes before that are one front
 pub with_front-with_front : (xs : List ℕ) (b : ℕ) (ls : List (List ℕ)) → with_front xs (with_front (b ∷ []) ls) ≡ with_front (xs ++ b ∷ []) ls
 with_front-with_front xs b [] = refl
 with_front-with_front xs b (l ∷ ls) = ap (λ (x : List ℕ). x ∷ ls) (sym (append_assoc xs (b ∷ []) l))
 
+-- an empty front before a list that begins with a byte changes nothing
 pub front_kept : (b : ℕ) (ls : List (List ℕ)) → with_front [] (with_front (b ∷ []) ls) ≡ with_front (b ∷ []) ls
 front_kept b [] = refl
 front_kept b (l ∷ ls) = refl
@@ -58,6 +61,7 @@ module _ (text : List ℕ) (start at : ℕ) (ordered : start ≤ at) (within : a
   abbrev so_far : List ℕ
   so_far = take (at - start) (drop start text)
 
+  -- one more byte of a word
   pub word_goes : is_white_space (get_or text at 0) ≡ false → with_front (take (at - start) (drop start text)) (pieces (drop at text)) ≡ with_front (take (at + 1 - start) (drop start text)) (pieces (drop (at + 1) text))
   word_goes h =
       let cons = drop_more text at 0 within in

@@ -36,10 +36,12 @@ use Rattle.plan_laws.specs.Names.{IsWithin}
 abbrev pub Clean : Candidates → Type 0
 Clean c = c.faults ≡ []
 
+-- where two lists together have nothing, neither has anything
 pub none_of : {A : Type 0} (xs ys : List A) → xs ++ ys ≡ [] → (xs ≡ []) × (ys ≡ [])
 none_of [] ys h = (refl, h)
 none_of (x ∷ xs) ys h = (cc, cc)
 
+-- where nothing is at fault in two parts, nothing is in each
 pub both_clean : (a b : Candidates) → Clean (a ⊕ b) → Clean a × Clean b
 unfolding ◌⊕◌
 both_clean a b h = none_of a.faults b.faults h
@@ -57,6 +59,7 @@ by_verdict : (known : Bool) (line : ℕ) → Clean (cond known nothing (one_faul
 by_verdict true line h = refl
 by_verdict false line h = absurd cc
 
+-- a list of names with no fault names only what is there
 pub known_names : (line : ℕ) (names others : List (List ℕ)) → Clean (unknown line names others) → All (IsNamed others) names
 known_names line names others h = all_named names others (by_verdict (all_among names others) line h)
 
@@ -64,6 +67,7 @@ either : (P : List ℕ → Type 0) (seen : Bool) (name : List ℕ) (rest : List 
 either P true name rest p h = h
 either P false name rest p h = All-cons P name rest p h
 
+-- what holds of all names holds of those that stand for the first time
 pub kept : (P : List ℕ → Type 0) (before names : List (List ℕ)) → All P names → All P (first_times before names)
 kept P before [] h = h
 kept P before (name ∷ names) h =
@@ -74,6 +78,7 @@ one_place : (same : Bool) (more : Bool) (rest n : ℕ) → (more ≡ true → re
 one_place true more rest n below h = omega arith
 one_place false more rest n below h = let less = below h in omega (arith, less)
 
+-- the place of a name that is there is one of the list's places
 pub place_below : (others : List (List ℕ)) (name : List ℕ) → is_among name others ≡ true → place_of others name < length others
 place_below [] name h = absurd (false≢true h)
 place_below (other ∷ others) name h = one_place (bytes_eq name other) (is_among name others) (place_of others name) (length others) (place_below others name) h
@@ -197,6 +202,7 @@ module _ (pairs : List Pair) (among : List (List ℕ)) where
       let parts = both_clean (source_named pairs agent among name) (each (source_named pairs agent among) names) h in
       All-cons (IsWithin (length among)) s ss (source_within (front_of agent (codes ".sources.") name) name s parts.0 are.0) (each_within agent names ss parts.1 are.1)
 
+-- as many things were made as there are names
 pub as_many : {A : Type 0} (R : List ℕ → A → Type 0) (names : List (List ℕ)) (xs : List A) → Match R names xs → length xs ≡ length names
 as_many R [] [] are = refl
 as_many R [] (x ∷ xs) are = absurd are
@@ -208,6 +214,7 @@ module _ (pairs : List Pair) (agent : List ℕ) where
   abbrev pub components : Candidates
   components = components_of pairs agent (agents.sources pairs agent) (agents.channels pairs agent) (agents.sinks pairs agent) (agents.groups pairs agent)
 
+  -- where a plan has no fault, none of its components has one
   pub components_clean : (s : Seen) → IsJudged pairs agent s → s.fault ≡ None → Clean components
   components_clean s found right =
       let sources = agents.sources pairs agent in
@@ -223,6 +230,7 @@ module _ (pairs : List Pair) (agent : List ℕ) where
       let five = both_clean (of_lists ⊕ components) of_claims six.0 in
       (both_clean of_lists components five.0).1
 
+  -- the channels that a source and its selector name are there
   pub sources_within : (plan : Plan) → Plans pairs agent (Ok plan) → All (IsWithin (length plan.channels.items)) plan.sources.items
   sources_within plan (is, (s, found, right), made) =
       let channels = agents.channels pairs agent in

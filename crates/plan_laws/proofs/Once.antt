@@ -186,6 +186,7 @@ module _ (pairs : List Pair) (agent : List ℕ) where
       let six = both_clean (candidates_of pairs agent sources channels sinks groups) (bad_ones (asked_of pairs agent sources) found.verdicts) clean in
       (both_clean (lists pairs (agent ++ codes ".") ⊕ components pairs agent) of_claims six.0).1
 
+  -- no sink of a plan stands in groups twice
   pub sinks_once : (plan : Plan) → Plans pairs agent (Ok plan) → AreDistinct (group_places plan.groups.items)
   sinks_once plan (is, (s, found, right), made) =
       let sources = agents.sources pairs agent in

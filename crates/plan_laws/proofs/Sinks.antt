@@ -135,6 +135,7 @@ module _ (pairs : List Pair) (agent : List ℕ) where
       let five = both_whole (of_lists ⊕ components pairs agent) of_claims six.0 in
       (both_whole of_lists (components pairs agent) five.0).1
 
+  -- the channel that a sink names is there
   pub sinks_within : (plan : Plan) → Plans pairs agent (Ok plan) → All (λ sink. sink.channel < length plan.channels.items) plan.sinks.items
   sinks_within plan (is, (s, found, right), made) =
       let channels = agents.channels pairs agent in
@@ -151,6 +152,7 @@ module _ (pairs : List Pair) (agent : List ℕ) where
       let many = as_many (ChannelNamed pairs agent) channels plan.channels.items made.channels in
       subst (λ (n : ℕ). All (λ sink. sink.channel < n) plan.sinks.items) (sym many) within
 
+  -- the sinks that a group names are there, each with a priority
   pub groups_within : (plan : Plan) → Plans pairs agent (Ok plan) → All (IsGroupWithin (length plan.sinks.items)) plan.groups.items
   groups_within plan (is, (s, found, right), made) =
       let channels = agents.channels pairs agent in

@@ -59,6 +59,7 @@ module _ {T : Type 0} where
     joined = joined ∙ ap (λ (l : List T). before ++ l) (sym (append-nil (given object)));
   }
 
+  -- the nearest line that misses its object, after one was asked for
   pub nearest_one : (ask : Ask) (old new : List (Named T)) (object : Option T) (first : Option ℕ) → IsTaken ask.name old object new
       → nearest first (names_of old) (ask ∷ []) ≡ cond (misses ask.name (found object)) (nearer first ask.line) first
   nearest_one ask old new object first is =
@@ -141,11 +142,13 @@ module _ {T : Type 0} where
   takes_many (a ∷ asks) old new [] are = absurd are
   takes_many (a ∷ asks) old new (object ∷ taken) (between, is, are) = ap suc (takes_many asks between new taken are)
 
+  -- where no ask is unmet, the objects that were joined are those that the sources claim
   pub claimed : (sources : List SourcePlan) (old new : List (Named T)) (objects : List T) → Joined (step_asks sources) old new [] objects → unmet (names_of old) (step_asks sources) ≡ []
       → AreClaimed sources old objects new
   claimed sources old new objects joined none =
       subst (λ (l : List (Option T)). Takes (step_asks sources) old l new)
       (all_found (step_asks sources) old new joined.taken (named_sources sources) joined.takes none ∙ ap (map (λ (o : T). Some o)) (sym joined.joined)) joined.takes
 
+  -- sources claim as many objects as they ask for
   pub claimed_many : (sources : List SourcePlan) (old new : List (Named T)) (objects : List T) → AreClaimed sources old objects new → length objects ≡ length (step_asks sources)
   claimed_many sources old new objects are = sym (length-map objects (λ (o : T). Some o)) ∙ takes_many (step_asks sources) old new (map (λ (o : T). Some o) objects) are

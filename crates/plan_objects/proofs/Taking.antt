@@ -50,6 +50,7 @@ claim_finds name old new None is = none_left name old is.0
 claim_finds name old new (Some object) (front, back, given, was, none, named, same, rest) =
     ap (λ (l : List (Named _)). is_left (names_of l) name) was ∙ one_left name front back given named none
 
+-- the names that are left after an object was asked for
 pub taken_leaves : {T : Type 0} (ask : Option (List ℕ)) (old new : List (Named T)) (object : Option T) → IsTaken ask old object new → names_of new ≡ left (names_of old) ask
 taken_leaves None old new object is = ap (λ (l : List (Named _)). names_of l) is.1
 taken_leaves (Some name) old new object is = claim_leaves name old new object is
@@ -75,6 +76,7 @@ has_object (Avro host port) line object none = tt
 has_object (Plugin name) line None none = absurd (cc)
 has_object (Plugin name) line (Some object) none = tt
 
+-- where two lists together are empty, both are
 pub nil_both : {A : Type 0} (xs ys : List A) → xs ++ ys ≡ [] → (xs ≡ []) × (ys ≡ [])
 nil_both [] ys is = (refl, is)
 nil_both (x ∷ xs) ys is = absurd (cc)

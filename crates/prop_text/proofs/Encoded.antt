@@ -32,6 +32,7 @@ pub data Shape (c : ℕ) : Type 0 where
 follows : (x : ℕ) → Follows (next x)
 follows x = (omega arith, omega arith)
 
+-- each character has one to four bytes in these ranges
 pub shape : (c : ℕ) → scalar c ≡ true → Shape c
 shape c s = by (cases_lt c 128) (cases_lt c 2048) (cases_lt c 65536)
   where
@@ -49,6 +50,7 @@ is_scalar c (inr h) = grind (arith, nat_tests)
 pub utf8_one : (x : ℕ) → x < 128 → IsUtf8 (x ∷ [])
 utf8_one x h = subst IsUtf8 (encode_ascii x h) (IsUtf8-encode x (is_scalar x (inl (omega arith))))
 
+-- two bytes in these ranges are a character
 pub utf8_two : (x y : ℕ) → 194 ≤ x → x < 224 → Follows y → IsUtf8 (x ∷ y ∷ [])
 utf8_two x y l h f =
     let c = (x - 192) * 64 + (y - 128) in
@@ -56,6 +58,7 @@ utf8_two x y l h f =
     let q : next c ≡ y = omega arith in
     subst IsUtf8 (two c (omega arith) (omega arith) ∙ (λ k. p k ∷ q k ∷ [])) (IsUtf8-encode c (is_scalar c (inl (omega arith))))
 
+-- three bytes in these ranges are a character
 pub utf8_three : (x y z : ℕ) → 224 ≤ x → x < 240 → Follows y → Follows z → (x ≡ 224 → 160 ≤ y) → (x ≡ 237 → y < 160) → IsUtf8 (x ∷ y ∷ z ∷ [])
 utf8_three x y z l h f g e d =
     let c = (x - 224) * 4096 + (y - 128) * 64 + (z - 128) in
@@ -67,6 +70,7 @@ utf8_three x y z l h f g e d =
     ⊎_elim (λ a. inl (omega arith)) (λ a. ⊎_elim (λ b. inr (omega arith, omega arith)) (λ b. let same : x ≡ 237 = omega arith in let k = d same in inl (omega arith)) (cases_lt 237 x)) (cases_lt x 237) in
     subst IsUtf8 (three c least (omega arith) ∙ (λ k. p k ∷ q k ∷ r k ∷ [])) (IsUtf8-encode c (is_scalar c parts))
 
+-- four bytes in these ranges are a character
 pub utf8_four : (x y z w : ℕ) → 240 ≤ x → x ≤ 244 → Follows y → Follows z → Follows w → (x ≡ 240 → 144 ≤ y) → (x ≡ 244 → y < 144) → IsUtf8 (x ∷ y ∷ z ∷ w ∷ [])
 utf8_four x y z w l h f g j e d =
     let c = (x - 240) * 262144 + (y - 128) * 4096 + (z - 128) * 64 + (w - 128) in

@@ -307,6 +307,7 @@ module _ (bytes : List ℕ) (v : ℕ) (valid : IsValidUpTo bytes v) where
             there.here (omega (arith, length-drop v bytes)) (longer.0, subst IsUtf8 (drop_at front behind v len) (IsUtf8-drop (front ++ behind) v whole cut));
       }
 
+  -- the first fault stands behind the longest front that is a text, as far as the error's length says
   pub first_fault : (len : Option ℕ) → len ≡ utf8_error_len rest → IsFirstFault bytes (v + place rest len)
   first_fault len is =
       let short = valid.short in

@@ -56,6 +56,7 @@ module _ (text : List ℕ) (start at : ℕ) (ordered : start ≤ at) (within : a
   abbrev so_far : List ℕ
   so_far = take (at - start) (drop start text)
 
+  -- a byte that ends no line is added to the line so far
   pub line_goes : end_len (drop at text) ≡ 0 → with_front (take (at - start) (drop start text)) (natural_lines (drop at text)) ≡ with_front (take (at + 1 - start) (drop start text)) (natural_lines (drop (at + 1) text))
   line_goes h =
       let cons = drop_more text at 0 within in
@@ -65,6 +66,7 @@ module _ (text : List ℕ) (start at : ℕ) (ordered : start ≤ at) (within : a
       let longer = take_more (drop start text) (at - start) 0 (omega (arith, length-drop start text)) ∙ ap (λ (x : ℕ). so_far ++ x ∷ []) (get_or-drop start text (at - start) 0 ∙ ap (λ k. get_or text k 0) same) in
       ap (with_front so_far) read ∙ with_front-with_front so_far (get_or text at 0) (natural_lines (drop (at + 1) text)) ∙ ap (λ (x : List ℕ). with_front x (natural_lines (drop (at + 1) text))) (sym (ap (λ k. take k (drop start text)) places ∙ longer))
 
+  -- a line end closes the line so far, and another line begins after it
   pub line_ends : 0 < end_len (drop at text) → with_front (take (at - start) (drop start text)) (natural_lines (drop at text)) ≡ take (at - start) (drop start text) ∷ natural_lines (drop (at + end_len (drop at text)) text)
   line_ends h =
       let P : List ℕ → Type 0 = λ x. 0 < end_len x → natural_lines x ≡ [] ∷ natural_lines (drop (end_len x) x) in

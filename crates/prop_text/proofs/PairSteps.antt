@@ -10,6 +10,7 @@ unescaped_passes zero bs = refl
 unescaped_passes (suc n) [] = refl
 unescaped_passes (suc n) (b ∷ bs) = unescaped_passes n bs
 
+-- bytes in front of bytes in front of what follows
 pub put_front : (xs ys : List ℕ) (o : Option (List ℕ)) → option_map (λ rest. xs ++ rest) (option_map (λ rest. ys ++ rest) o) ≡ option_map (λ rest. (xs ++ ys) ++ rest) o
 put_front xs ys None = refl
 put_front xs ys (Some r) = ap (λ (x : List ℕ). Some x) (sym (append_assoc xs ys r))
@@ -40,6 +41,7 @@ key_step_more b (c ∷ bs) keeps =
     cond-false (ends_key b) _ _ keeps ∙
     cond_both (b == 92) 2 1 (λ n. cond (b == 92) (2 + key_len bs) (1 + key_len (c ∷ bs)) ≡ n + key_len (drop n (b ∷ c ∷ bs))) (λ e. cond-true (b == 92) _ _ e) (λ e. cond-false (b == 92) _ _ e)
 
+-- a byte that ends no key makes it longer by its step
 pub key_len_step : (line : List ℕ) (at : ℕ) → at < length line → ends_key (get_or line at 0) ≡ false → key_len (drop at line) ≡ key_step (drop at line) + key_len (drop (key_step (drop at line)) (drop at line))
 key_len_step line at lt keeps = rw (drop_more line at 0 lt) (key_step_more (get_or line at 0) (drop (at + 1) line) keeps)
 
@@ -47,10 +49,12 @@ key_step_positive_cons : (b : ℕ) (bs : List ℕ) → 0 < key_step (b ∷ bs)
 key_step_positive_cons b [] = omega arith
 key_step_positive_cons b (c ∷ bs) = cond_both (b == 92) 2 1 (λ n. 0 < n) (λ _. omega arith) (λ _. omega arith)
 
+-- a step within a key takes some bytes
 pub key_step_positive : (bs : List ℕ) → 0 < length bs → 0 < key_step bs
 key_step_positive [] h = absurd (omega arith)
 key_step_positive (b ∷ bs) h = key_step_positive_cons b bs
 
+-- a key ends where a byte that ends keys stands
 pub key_len_end : (line : List ℕ) (at : ℕ) → at < length line → ends_key (get_or line at 0) ≡ true → key_len (drop at line) ≡ 0
 key_len_end line at lt stops = rw (drop_more line at 0 lt) (key_len_ends (get_or line at 0) (drop (at + 1) line) stops)
   where

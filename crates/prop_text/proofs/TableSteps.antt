@@ -121,6 +121,7 @@ last_push : (p r : Pair) (qs : List Pair) → last_with_key p (qs ++ r ∷ []) �
 last_push p r [] = refl
 last_push p r (q ∷ qs) = last_push (cond (same_key q p) q p) r qs ∙ ap (λ (b : Bool). cond b r (last_with_key (cond (same_key q p) q p) qs)) (key_kept p q r)
 
+-- one more pair is put among the last pairs of their keys
 pub winners_push : (ps : List Pair) (r : Pair) → winners (ps ++ r ∷ []) ≡ put r (winners ps)
 winners_push [] r = refl
 winners_push (p ∷ ps) r =
@@ -143,10 +144,12 @@ abbrev pub onto : List Pair → Result (List Pair) ℕ → Result (List Pair) �
 onto done (Ok ps) = Ok (done ++ ps)
 onto done (Err line) = Err line
 
+-- a pair that was read joins those in front of the further lines
 pub onto_push : (done : List Pair) (number : ℕ) (p : Pair) (rest : Result (List Pair) ℕ) → onto done (with_pair number (Some p) rest) ≡ onto (done ++ p ∷ []) rest
 onto_push done number p (Ok ps) = ap (λ (x : List Pair). Ok x) (sym (append_assoc done (p ∷ []) ps))
 onto_push done number p (Err line) = refl
 
+-- before the first pair there is nothing in front
 pub onto_none : (rest : Result (List Pair) ℕ) → onto [] rest ≡ rest
 onto_none (Ok ps) = refl
 onto_none (Err line) = refl

@@ -15,6 +15,7 @@ use Rattle.prop_text.specs.Pairs.{ends_key, past_separator, digit_at, hex_number
 use Rattle.prop_text.proofs.LineSteps.{white_space_is_ascii, after_white_space}
 use Rattle.prop_text.proofs.PairSteps.{unescaped_passes, put_front}
 
+-- a text without the white space at its start is a text
 pub utf8_trim_start : (text : List ℕ) → IsUtf8 text → IsUtf8 (trim_start text)
 utf8_trim_start text utf8 =
     let n = prefix_len is_white_space text in
@@ -22,6 +23,7 @@ utf8_trim_start text utf8 =
     (λ some. IsUtf8-drop text n utf8 (after_white_space text n utf8 refl (prefix_len-le-length is_white_space text) (omega arith)))
     (cases_eq n 0)
 
+-- a text without the white space at its end is a text
 pub utf8_trim_end : (text : List ℕ) → IsUtf8 text → IsUtf8 (trim_end text)
 utf8_trim_end text utf8 =
     let k = suffix_len is_white_space text in
@@ -34,9 +36,11 @@ utf8_trim_end text utf8 =
     IsUtf8-take text (length text - k) utf8 (IsCharBoundary-before_ascii text (length text - k) (omega arith) (subst (λ (b : ℕ). b < 128) there low)))
     (cases_eq k 0)
 
+-- a text without the white space at both ends is a text
 pub utf8_trim : (text : List ℕ) → IsUtf8 text → IsUtf8 (trim text)
 utf8_trim text utf8 = utf8_trim_end (trim_start text) (utf8_trim_start text utf8)
 
+-- what follows a separator in a text is a text
 pub utf8_past_separator : (rest : List ℕ) → IsUtf8 rest → IsUtf8 (past_separator rest)
 utf8_past_separator rest utf8 =
     let mark = trim_start rest in

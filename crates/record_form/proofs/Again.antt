@@ -33,6 +33,7 @@ field-again width fault next bytes rest at size right =
     reads-next width fault next (bytes ++ rest) at (omega (arith, length-append bytes rest, size)) (ap fault front ∙ right)
     ∙ ap (λ b. reads (next b) (drop width (bytes ++ rest)) (at + width)) front ∙ ap (λ r. reads (next bytes) r (at + width)) back
 
+-- a counted text that stands in front is read again
 pub text-again : (end : ℕ) (last : Option (List ℕ)) (next : List ℕ → Grammar) (text rest : List ℕ) (at : ℕ) → length text < 2 ^ 32 → at + 4 + length text ≤ end → IsUtf8 text → is_above last text ≡ true
     → reads (text_grammar end at last next) (counted_bytes text ++ rest) at ≡ reads (next text) rest (at + 4 + length text)
 unfolding text_grammar
@@ -46,6 +47,7 @@ text-again end last next text rest at short inside utf8 above =
     ∙ ap (λ m. reads (Field m (λ text. not (is_utf8 text && is_above last text)) next) (text ++ rest) (at + 4)) size
     ∙ field-again n (λ text. not (is_utf8 text && is_above last text)) next text rest (at + 4) refl right
 
+-- a counted body that ends with the event is read, and the PUT with it
 pub body-again : (txn end at : ℕ) (headers : List Header) (body rest : List ℕ) → length body < 2 ^ 32 → at + 4 + length body ≡ end → reads (body_grammar txn end at headers) (counted_bytes body ++ rest) at ≡ Complete (Put txn (content headers body)) end
 unfolding body_grammar
 body-again txn end at headers body rest short ends =
@@ -63,14 +65,17 @@ abbrev pub Rises : Option (List ℕ) → List Header → Type 0
 Rises last [] = Unit {0}
 Rises last (h ∷ hs) = (is_above last h.0 ≡ true) × Rises (Some h.0) hs
 
+-- sorted keys that are all above a key rise from it on
 pub rises_behind : (k : List ℕ) (hs : List Header) → AllByRecursion (λ y. key_cmp k y ≡ Less) (keys_of hs) → IsStrictlySortedBy key_cmp (keys_of hs) → Rises (Some k) hs
 rises_behind k [] first sorted = tt
 rises_behind k (h ∷ hs) first sorted = (ap is_lt first.0, rises_behind h.0 hs (sorted_head key_cmp h.0 (keys_of hs) sorted) (sorted_tail key_cmp h.0 (keys_of hs) sorted))
 
+-- sorted keys rise from the first one on
 pub rises_all : (hs : List Header) → IsStrictlySortedBy key_cmp (keys_of hs) → Rises None hs
 rises_all [] sorted = tt
 rises_all (h ∷ hs) sorted = (refl, rises_behind h.0 hs (sorted_head key_cmp h.0 (keys_of hs) sorted) (sorted_tail key_cmp h.0 (keys_of hs) sorted))
 
+-- headers in order and the body behind them are read again
 pub headers-again : (hs done : List Header) (txn end at : ℕ) (last : Option (List ℕ)) (body rest : List ℕ) → AllByRecursion IsTextHeader hs → Rises last hs → at + headers_size hs + 4 + length body ≡ end → end < 2 ^ 32
     → reads (headers_grammar (length hs) txn end at last done) (flat_map header_bytes hs ++ (counted_bytes body ++ rest)) at ≡ Complete (Put txn (content (done ++ hs) body)) end
 headers-again [] done txn end at last body rest texts rises ends short =
@@ -161,6 +166,7 @@ record-again (End number) rest fields limit =
     kind-again 6 (u32_bytes number ++ rest) (omega arith) (omega arith)
     ∙ count-again (λ number. End (u32_of number)) (End number) number rest 1 fields limit (ap End (u32_of-u32_bytes number fields))
 
+-- a record has as many bytes as its kind says
 pub length-spelling : (rec : Rec) → length (spelling rec) ≡ record_length rec
 length-spelling (Put txn event) = omega (arith, length-append (u64_bytes txn) (u32_bytes (size event) ++ event_bytes event), length-append (u32_bytes (size event)) (event_bytes event), length-u64_bytes txn, length-u32_bytes (size event))
 length-spelling (Take txn number) = omega (arith, length-append (u64_bytes txn) (u64_bytes number), length-u64_bytes txn, length-u64_bytes number)

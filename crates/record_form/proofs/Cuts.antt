@@ -36,6 +36,7 @@ front-cut (Field width fault next) bytes at rec end n whole all short =
     cases refl)
     (cases_lt n width)
 
+-- a record whose bytes end early is read as a part
 pub cut-part : (rec : Rec) (n : ℕ) → HasFields rec → IsWithinLimits rec → n < record_length rec → read_of (take n (spelling rec)) ≡ Part
 cut-part rec n fields limit short =
     let whole : outcome_of (spelling rec) ≡ Complete rec (record_length rec) = ap outcome_of (sym (append-nil (spelling rec))) ∙ record-again rec [] fields limit in

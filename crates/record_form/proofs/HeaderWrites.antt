@@ -16,6 +16,7 @@ pub record Writes (start into : List ℕ) (was_len len was_room room : ℕ) (all
   pub kept : was_room ≤ room
   pub short : headers_size rest < 2 ^ 32
 
+-- the next header is written, and the rest still has room
 pub one_more : (start into next : List ℕ) (was_len len len' was_room room room' : ℕ) (all done rest : List Header) (h : Header) → Writes start into was_len len was_room room all done (h ∷ rest)
     → next ≡ (into ++ counted_bytes h.0) ++ counted_bytes h.1 → len' ≡ len + header_size h → room ≤ room' → Writes start next was_len len' was_room room' all (done ++ h ∷ []) rest
 one_more start into next was_len len len' was_room room room' all done rest h w is longer more =

@@ -14,6 +14,7 @@ pub record WholeField (width : ℕ) (fault : List ℕ → Bool) (next : List ℕ
   pub right : fault (take width (drop at bytes)) ≡ false
   pub rest : reads (next (take width (drop at bytes))) (drop (at + width) bytes) (at + width) ≡ Complete rec end
 
+-- where a record was read whole, its next field is there and right
 pub whole_field : (width : ℕ) (fault : List ℕ → Bool) (next : List ℕ → Grammar) (bytes : List ℕ) (at : ℕ) (rec : Rec) (end : ℕ) → at ≤ length bytes → reads (Field width fault next) (drop at bytes) at ≡ Complete rec end → WholeField width fault next bytes at rec end
 whole_field width fault next bytes at rec end within whole =
     let rest = drop at bytes in
@@ -50,6 +51,7 @@ whole_count next bytes at rec end within whole =
 
 -- the fields of each kind
 
+-- the bytes that were read as a whole TAKE, and its numbers
 pub whole_take : (bytes : List ℕ) (rec : Rec) (end : ℕ) → 1 ≤ length bytes → reads (kind_grammar 2) (drop 1 bytes) 1 ≡ Complete rec end
     → (17 ≤ length bytes) × (rec ≡ Take (u64_of (take 8 (drop 1 bytes))) (u64_of (take 8 (drop 9 bytes)))) × (end ≡ 17)
 unfolding kind_grammar
@@ -59,6 +61,7 @@ whole_take bytes rec end some whole =
     let d = whole_done (Take (u64_of (take 8 (drop 1 bytes))) (u64_of (take 8 (drop 9 bytes)))) rec (drop 17 bytes) 17 end number.rest in
     (number.there, d.0, d.1)
 
+-- the bytes that were read as a whole ROLLBACK, and its number
 pub whole_rollback : (bytes : List ℕ) (rec : Rec) (end : ℕ) → 1 ≤ length bytes → reads (kind_grammar 3) (drop 1 bytes) 1 ≡ Complete rec end
     → (9 ≤ length bytes) × (rec ≡ Rollback (u64_of (take 8 (drop 1 bytes)))) × (end ≡ 9)
 unfolding kind_grammar
@@ -67,6 +70,7 @@ whole_rollback bytes rec end some whole =
     let d = whole_done (Rollback (u64_of (take 8 (drop 1 bytes)))) rec (drop 9 bytes) 9 end txn.rest in
     (txn.there, d.0, d.1)
 
+-- the bytes that were read as a whole COMMIT_PUT, whose count isn't 0
 pub whole_commit_put : (bytes : List ℕ) (rec : Rec) (end : ℕ) → 1 ≤ length bytes → reads (kind_grammar 4) (drop 1 bytes) 1 ≡ Complete rec end
     → WholeCount bytes 17 × (rec ≡ CommitPut (u64_of (take 8 (drop 1 bytes))) (u64_of (take 8 (drop 9 bytes))) (u32_of (take 4 (drop 17 bytes)))) × (end ≡ 21)
 unfolding kind_grammar
@@ -75,6 +79,7 @@ whole_commit_put bytes rec end some whole =
     let first = whole_field 8 (λ b. false) (λ first. count (λ number. Done (CommitPut (u64_of (take 8 (drop 1 bytes))) (u64_of first) (u32_of number)))) bytes 9 rec end txn.there txn.rest in
     whole_count (λ number. CommitPut (u64_of (take 8 (drop 1 bytes))) (u64_of (take 8 (drop 9 bytes))) (u32_of number)) bytes 17 rec end first.there first.rest
 
+-- the bytes that were read as a whole COMMIT_TAKE, whose count isn't 0
 pub whole_commit_take : (bytes : List ℕ) (rec : Rec) (end : ℕ) → 1 ≤ length bytes → reads (kind_grammar 5) (drop 1 bytes) 1 ≡ Complete rec end
     → WholeCount bytes 9 × (rec ≡ CommitTake (u64_of (take 8 (drop 1 bytes))) (u32_of (take 4 (drop 9 bytes)))) × (end ≡ 13)
 unfolding kind_grammar
@@ -82,6 +87,7 @@ whole_commit_take bytes rec end some whole =
     let txn = whole_field 8 (λ b. false) (λ txn. count (λ number. Done (CommitTake (u64_of txn) (u32_of number)))) bytes 1 rec end some whole in
     whole_count (λ number. CommitTake (u64_of (take 8 (drop 1 bytes))) (u32_of number)) bytes 9 rec end txn.there txn.rest
 
+-- the bytes that were read as a whole END, whose count isn't 0
 pub whole_end : (bytes : List ℕ) (rec : Rec) (end : ℕ) → 1 ≤ length bytes → reads (kind_grammar 6) (drop 1 bytes) 1 ≡ Complete rec end
     → WholeCount bytes 1 × (rec ≡ End (u32_of (take 4 (drop 1 bytes)))) × (end ≡ 5)
 unfolding kind_grammar
@@ -92,6 +98,7 @@ pub record WholePut (bytes : List ℕ) (rec : Rec) (end : ℕ) : Type 0 where
   pub size : u32_of (take 4 (drop 9 bytes)) ≤ 1_048_576
   pub rest : reads (headers_grammar (u32_of (take 4 (drop 13 bytes))) (u64_of (take 8 (drop 1 bytes))) (13 + u32_of (take 4 (drop 9 bytes))) 17 None []) (drop 17 bytes) 17 ≡ Complete rec end
 
+-- the front of a whole PUT is there and its event isn't too large, and its headers follow
 pub whole_put : (bytes : List ℕ) (rec : Rec) (end : ℕ) → 1 ≤ length bytes → reads (kind_grammar 1) (drop 1 bytes) 1 ≡ Complete rec end → WholePut bytes rec end
 whole_put bytes rec end some whole =
     let size = u32_of (take 4 (drop 9 bytes)) in
@@ -106,6 +113,7 @@ whole_put bytes rec end some whole =
     (cases_lt 1_048_576 size))
     (cases_lt (length bytes) 13)
 
+-- what is not false is true
 pub not_not : (b : Bool) → not b ≡ false → b ≡ true
 not_not true h = refl
 not_not false h = cc
@@ -117,6 +125,7 @@ pub record WholeBody (txn end at : ℕ) (headers : List (List ℕ × List ℕ)) 
   pub is : rec ≡ Put txn (content headers (take (u32_of (take 4 (drop at bytes))) (drop (at + 4) bytes)))
   pub stops : stop ≡ end
 
+-- a body that was read ends where the event does, and the record is a PUT of it
 pub whole_body : (txn end at : ℕ) (headers : List Header) (bytes : List ℕ) (rec : Rec) (stop : ℕ) → at ≤ length bytes → reads (body_grammar txn end at headers) (drop at bytes) at ≡ Complete rec stop → WholeBody txn end at headers bytes rec stop
 unfolding body_grammar
 whole_body txn end at headers bytes rec stop within whole =

@@ -43,6 +43,7 @@ count-short P bytes at (Ok end) o short cut counts = absurd (omega (arith, short
 count-short P bytes at (Err stops.Part) o short cut counts = cut
 count-short P bytes at (Err (stops.Bad fault)) o short cut counts = absurd (omega (arith, short, counts.0))
 
+-- an answer also fits an equal outcome, and what follows from what held of it
 pub answers-through : {X : Type 0} (P Q : X → Type 0) (r : Result X Stop) (o p : Outcome) → o ≡ p → ((x : X) → P x → Q x) → Answers r p P → Answers r o Q
 answers-through P Q (Ok x) o p same goes holds = goes x holds
 answers-through P Q (Err stop) o p same goes holds = same ∙ holds
@@ -53,6 +54,7 @@ take-grammar : kind_grammar 2 ≡ plain 8 (λ txn. plain 8 (λ number. Done (Tak
 unfolding kind_grammar
 take-grammar = refl
 
+-- a reader of two numbers answers as a TAKE is read
 pub take-answers : (bytes : List ℕ) (r : Result ℕ Stop) → 1 ≤ length bytes → Takes r bytes 1 16 (λ end. end ≡ 17) → Answers r (reads (kind_grammar 2) (drop 1 bytes) 1) (Ends 2 bytes)
 take-answers bytes (Ok end) some takes =
     let rec : Rec = Take (u64_of (take 8 (drop 1 bytes))) (u64_of (take 8 (drop 9 bytes))) in
@@ -66,6 +68,7 @@ rollback-grammar : kind_grammar 3 ≡ plain 8 (λ txn. Done (Rollback (u64_of tx
 unfolding kind_grammar
 rollback-grammar = refl
 
+-- a reader of one number answers as a ROLLBACK is read
 pub rollback-answers : (bytes : List ℕ) (r : Result ℕ Stop) → 1 ≤ length bytes → Takes r bytes 1 8 (λ end. end ≡ 9) → Answers r (reads (kind_grammar 3) (drop 1 bytes) 1) (Ends 3 bytes)
 rollback-answers bytes (Ok end) some takes =
     let rec : Rec = Rollback (u64_of (take 8 (drop 1 bytes))) in
@@ -86,6 +89,7 @@ commit_put-count : (txn first : List ℕ) → commit_put_count txn first ≡ cou
 unfolding commit_put_count
 commit_put-count txn first = refl
 
+-- a reader of the count after two numbers answers as a COMMIT_PUT is read
 pub commit_put-answers : (bytes : List ℕ) (r : Result ℕ Stop) → 1 ≤ length bytes → CountsAt r bytes 17 → Answers r (reads (kind_grammar 4) (drop 1 bytes) 1) (Ends 4 bytes)
 commit_put-answers bytes r some counts =
     let txn = take 8 (drop 1 bytes) in
@@ -114,6 +118,7 @@ commit_take-count : (txn : List ℕ) → commit_take_count txn ≡ count (λ num
 unfolding commit_take_count
 commit_take-count txn = refl
 
+-- a reader of the count after one number answers as a COMMIT_TAKE is read
 pub commit_take-answers : (bytes : List ℕ) (r : Result ℕ Stop) → 1 ≤ length bytes → CountsAt r bytes 9 → Answers r (reads (kind_grammar 5) (drop 1 bytes) 1) (Ends 5 bytes)
 commit_take-answers bytes r some counts =
     let txn = take 8 (drop 1 bytes) in
@@ -134,6 +139,7 @@ end-grammar : kind_grammar 6 ≡ count (λ number. Done (End (u32_of number)))
 unfolding kind_grammar
 end-grammar = refl
 
+-- a reader of the count after the kind answers as an END is read
 pub end-answers : (bytes : List ℕ) (r : Result ℕ Stop) → 1 ≤ length bytes → CountsAt r bytes 1 → Answers r (reads (kind_grammar 6) (drop 1 bytes) 1) (Ends 6 bytes)
 end-answers bytes r some counts =
     let path : reads (kind_grammar 6) (drop 1 bytes) 1 ≡ reads (count (λ number. Done (End (u32_of number)))) (drop 1 bytes) 1 = ap (λ g. reads g (drop 1 bytes) 1) end-grammar in

@@ -47,6 +47,7 @@ is_lt-Less Less h = refl
 is_lt-Less Equal h = cc
 is_lt-Less Greater h = cc
 
+-- a key above the last one is greater than it
 pub key_above : (last key : List ℕ) → is_above (Some last) key ≡ true → key_cmp key last ≡ Greater
 key_above last key h =
     let less : key_cmp last key ≡ Less = is_lt-Less (key_cmp last key) h in
@@ -63,6 +64,7 @@ push_all : (next : List ℕ) (hs : List Header) (h : Header) → AllByRecursion 
 push_all next [] h all one = (one, tt)
 push_all next (x ∷ hs) h all one = (all.0, push_all next hs h all.1 one)
 
+-- what is above the last of some headers is above all of them
 pub still_above : (key value : List ℕ) (hs : List Header) → AllByRecursion (λ h. key_cmp key h.0 ≡ Greater) hs → (next : List ℕ) → is_above (Some key) next ≡ true → AllByRecursion (λ h. key_cmp next h.0 ≡ Greater) (hs ++ (key, value) ∷ [])
 still_above key value hs all next h =
     push_all next hs (key, value) (above_all key next hs (is_lt-Less (key_cmp key next) h) all) (key_above key next h)
@@ -73,6 +75,7 @@ pub builds_key : (bytes : List ℕ) (txn end number counter at : ℕ) (last : Op
 builds_key bytes txn end number counter at last headers on more =
     on.same ∙ ap (λ g. reads g (drop at bytes) at) (headers-more (number - (counter + 1)) (number - counter) txn end at last headers (omega arith))
 
+-- before the first header none is built, and reading goes on at offset 17
 pub builds_none : (bytes : List ℕ) (txn size number : ℕ) (headers : List Header) → 17 ≤ length bytes → size ≡ u32_of (take 4 (drop 9 bytes)) → size ≤ 1_048_576 → number ≡ u32_of (take 4 (drop 13 bytes)) → txn ≡ u64_of (take 8 (drop 1 bytes)) → headers ≡ []
     → BuildsOn bytes txn (13 + size) number 0 17 None headers
 builds_none bytes txn size number headers long sized less counted named none =
@@ -122,6 +125,7 @@ pub no_stop : (o : Outcome) (stop : Stop) → o ≡ stopped stop → IsWhole (as
 no_stop o stops.Part same whole = subst (λ o. IsWhole (as_read o)) same whole
 no_stop o (stops.Bad at) same whole = subst (λ o. IsWhole (as_read o)) same whole
 
+-- what is whole was read as a complete record
 pub whole_outcome : (o : Outcome) → IsWhole (as_read o) → (rec : Rec) × ((end : ℕ) × (o ≡ Complete rec end))
 whole_outcome (Complete rec end) whole = (rec, (end, refl))
 whole_outcome Incomplete whole = absurd whole
@@ -134,6 +138,7 @@ pub record WholeRecord (bytes : List ℕ) : Type 0 where
   pub high : slice_index bytes 0 ≤ 6
   pub same : outcome_of bytes ≡ reads (kind_grammar (slice_index bytes 0)) (drop 1 bytes) 1
 
+-- bytes with a whole record in front begin with a known kind
 pub whole_record : (bytes : List ℕ) → IsWhole (read_of bytes) → WholeRecord bytes
 whole_record bytes whole =
     let found = whole_outcome (outcome_of bytes) whole in
@@ -157,6 +162,7 @@ pub record KindWhole (bytes : List ℕ) (kind : ℕ) : Type 0 where
   pub whole : outcome_of bytes ≡ Complete rec end
   pub inner : reads (kind_grammar kind) (drop 1 bytes) 1 ≡ Complete rec end
 
+-- bytes that begin with this kind and are whole spell a record of it
 pub kind_whole : (bytes : List ℕ) (kind : ℕ) → IsWhole (read_of bytes) → slice_index bytes 0 ≡ kind → KindWhole bytes kind
 kind_whole bytes kind whole is =
     let r = whole_record bytes whole in
@@ -169,5 +175,6 @@ kind_whole bytes kind whole is =
       inner = ap (λ k. reads (kind_grammar k) (drop 1 bytes) 1) (sym is) ∙ sym r.same ∙ found.1.1;
     }
 
+-- a complete record is whole
 pub whole_here : (o : Outcome) (rec : Rec) (end : ℕ) → o ≡ Complete rec end → IsWhole (as_read o)
 whole_here o rec end same = subst (λ o. IsWhole (as_read o)) (sym same) tt

@@ -11,6 +11,7 @@ use Rattle.record_form.specs.declared.record.Rec.TheVariants.{Put}
 regroup : (start t s n hs b : List ℕ) → (((((start ++ 1 ∷ []) ++ t) ++ s) ++ n) ++ hs) ++ b ≡ start ++ (1 ∷ (t ++ (s ++ ((n ++ hs) ++ b))))
 regroup start t s n hs b = simp append_assoc
 
+-- the parts of a PUT, written one after another, spell it
 pub put-spelled : (event : Content) (txn : ℕ) (start one two three four five six : List ℕ) (n m : ℕ) (hs : List Header) (body : List ℕ)
     → one ≡ start ++ 1 ∷ [] → two ≡ one ++ u64_bytes txn → three ≡ two ++ u32_bytes n → four ≡ three ++ u32_bytes m → five ≡ four ++ flat_map header_bytes hs → six ≡ five ++ counted_bytes body
     → n ≡ size event → m ≡ length hs → hs ≡ event.headers → body ≡ event.body → six ≡ start ++ spelling (Put txn event)

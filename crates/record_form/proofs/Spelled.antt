@@ -15,6 +15,7 @@ use Rattle.record_form.proofs.Inversions.{whole_take, whole_rollback, whole_comm
 abbrev pub AreBytes : List ℕ → Type 0
 AreBytes bytes = (i : ℕ) → get_or bytes i 0 < 256
 
+-- where all are bytes, each place holds one
 pub bytes_at : (bytes : List ℕ) → All (λ b. b < 256) bytes → AreBytes bytes
 bytes_at bytes all i = ⊎_elim (λ within. all i 0 within) (λ past. subst (λ b. b < 256) (sym (get_or_past bytes i 0 past)) (omega arith)) (cases_lt i (length bytes))
 
@@ -26,18 +27,23 @@ part_bytes width at bytes are i =
     (λ past. subst (λ b. b < 256) (sym (get_or_past (take width (drop at bytes)) i 0 (omega (arith, length-take width (drop at bytes), past)))) (omega arith))
     (cases_lt i width)
 
+-- where each place holds a byte, all are bytes
 pub all_bytes : (bytes : List ℕ) → AreBytes bytes → All (λ b. b < 256) bytes
 all_bytes bytes are k d within = subst (λ b. b < 256) (get_or_default bytes k 0 d within) (are k)
 
+-- the eight bytes of a number are those that it is written as
 pub u64_part : (at : ℕ) (bytes : List ℕ) → AreBytes bytes → at + 8 ≤ length bytes → u64_bytes (u64_of (take 8 (drop at bytes))) ≡ take 8 (drop at bytes)
 u64_part at bytes are long = u64_bytes-u64_of (take 8 (drop at bytes)) (length-take-le 8 (drop at bytes) (omega (arith, length-drop at bytes, long))) (part_bytes 8 at bytes are)
 
+-- the four bytes of a number are those that it is written as
 pub u32_part : (at : ℕ) (bytes : List ℕ) → AreBytes bytes → at + 4 ≤ length bytes → u32_bytes (u32_of (take 4 (drop at bytes))) ≡ take 4 (drop at bytes)
 u32_part at bytes are long = u32_bytes-u32_of (take 4 (drop at bytes)) (length-take-le 4 (drop at bytes) (omega (arith, length-drop at bytes, long))) (part_bytes 4 at bytes are)
 
+-- a number read from eight bytes fits into 64 bits
 pub u64_fits : (at : ℕ) (bytes : List ℕ) → AreBytes bytes → u64_of (take 8 (drop at bytes)) < 2 ^ 64
 u64_fits at bytes are = u64_of-fits (take 8 (drop at bytes)) (part_bytes 8 at bytes are)
 
+-- a number read from four bytes fits into 32 bits
 pub u32_fits : (at : ℕ) (bytes : List ℕ) → AreBytes bytes → u32_of (take 4 (drop at bytes)) < 2 ^ 32
 u32_fits at bytes are = u32_of-fits (take 4 (drop at bytes)) (part_bytes 4 at bytes are)
 
@@ -54,9 +60,11 @@ parts a b at bytes = take-add a b (drop at bytes) ∙ ap (λ x. take a (drop at 
 abbrev pub IsSpelledBy : List ℕ → Rec → ℕ → Type 0
 IsSpelledBy bytes rec end = Spells (take end bytes) rec × (end ≡ record_length rec)
 
+-- an equal record with an equal end is spelled by the same bytes
 pub spelled_as : (bytes : List ℕ) (rec found : Rec) (end stop : ℕ) → found ≡ rec → stop ≡ end → IsSpelledBy bytes rec end → IsSpelledBy bytes found stop
 spelled_as bytes rec found end stop same ends spelled = subst (λ r. IsSpelledBy bytes r stop) (sym same) (subst (IsSpelledBy bytes rec) (sym ends) spelled)
 
+-- the bytes of a TAKE that was read spell it
 pub spelled_take : (bytes : List ℕ) (rec : Rec) (end : ℕ) → AreBytes bytes → 1 ≤ length bytes → slice_index bytes 0 ≡ 2 → reads (kind_grammar 2) (drop 1 bytes) 1 ≡ Complete rec end → IsSpelledBy bytes rec end
 spelled_take bytes rec end are some is whole =
     let t = whole_take bytes rec end some whole in
@@ -70,6 +78,7 @@ spelled_take bytes rec end are some is whole =
       refl,
     )
 
+-- the bytes of a ROLLBACK that was read spell it
 pub spelled_rollback : (bytes : List ℕ) (rec : Rec) (end : ℕ) → AreBytes bytes → 1 ≤ length bytes → slice_index bytes 0 ≡ 3 → reads (kind_grammar 3) (drop 1 bytes) 1 ≡ Complete rec end → IsSpelledBy bytes rec end
 spelled_rollback bytes rec end are some is whole =
     let t = whole_rollback bytes rec end some whole in
@@ -85,6 +94,7 @@ spelled_rollback bytes rec end are some is whole =
 some_count : (n : ℕ) → n ≢ 0 → 1 ≤ n
 some_count n some = omega (arith, some)
 
+-- the bytes of a COMMIT_PUT that was read spell it
 pub spelled_commit_put : (bytes : List ℕ) (rec : Rec) (end : ℕ) → AreBytes bytes → 1 ≤ length bytes → slice_index bytes 0 ≡ 4 → reads (kind_grammar 4) (drop 1 bytes) 1 ≡ Complete rec end → IsSpelledBy bytes rec end
 spelled_commit_put bytes rec end are some is whole =
     let t = whole_commit_put bytes rec end some whole in
@@ -101,6 +111,7 @@ spelled_commit_put bytes rec end are some is whole =
       refl,
     )
 
+-- the bytes of a COMMIT_TAKE that was read spell it
 pub spelled_commit_take : (bytes : List ℕ) (rec : Rec) (end : ℕ) → AreBytes bytes → 1 ≤ length bytes → slice_index bytes 0 ≡ 5 → reads (kind_grammar 5) (drop 1 bytes) 1 ≡ Complete rec end → IsSpelledBy bytes rec end
 spelled_commit_take bytes rec end are some is whole =
     let t = whole_commit_take bytes rec end some whole in
@@ -114,6 +125,7 @@ spelled_commit_take bytes rec end are some is whole =
       refl,
     )
 
+-- the bytes of an END that was read spell it
 pub spelled_end : (bytes : List ℕ) (rec : Rec) (end : ℕ) → AreBytes bytes → 1 ≤ length bytes → slice_index bytes 0 ≡ 6 → reads (kind_grammar 6) (drop 1 bytes) 1 ≡ Complete rec end → IsSpelledBy bytes rec end
 spelled_end bytes rec end are some is whole =
     let t = whole_end bytes rec end some whole in

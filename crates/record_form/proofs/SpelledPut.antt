@@ -77,6 +77,7 @@ pub record WholeHeaders (n txn end at : ℕ) (last : Option (List ℕ)) (done : 
   pub long : end ≤ length bytes
   pub is : take (headers_size headers + (4 + length body)) (drop at bytes) ≡ flat_map header_bytes headers ++ counted_bytes body
 
+-- the headers and the body that were read as a whole are spelled so
 pub whole_headers : (n txn end at : ℕ) (last : Option (List ℕ)) (done : List Header) (bytes : List ℕ) (rec : Rec) (stop : ℕ) → AreBytes bytes → at ≤ length bytes → reads (headers_grammar n txn end at last done) (drop at bytes) at ≡ Complete rec stop → WholeHeaders n txn end at last done bytes rec stop
 whole_headers zero txn end at last done bytes rec stop are within whole =
     let b = whole_body txn end at done bytes rec stop within (ap (λ g. reads g (drop at bytes) at) (sym (headers-none txn end at last done)) ∙ whole) in
@@ -153,6 +154,7 @@ unfolding IsStrictlySortedBy
 sorted_of last [] rises = tt
 sorted_of last (h ∷ hs) rises = (all_above h.0 hs rises.1, sorted_of (Some h.0) hs rises.1)
 
+-- the bytes of a PUT that was read spell it
 pub spelled_put : (bytes : List ℕ) (rec : Rec) (end : ℕ) → AreBytes bytes → 1 ≤ length bytes → slice_index bytes 0 ≡ 1 → reads (kind_grammar 1) (drop 1 bytes) 1 ≡ Complete rec end → IsSpelledBy bytes rec end
 unfolding event_bytes
 spelled_put bytes rec end are some is whole =

@@ -16,6 +16,7 @@ no_true e = cc
 no_false : {P : Type 0} → true ≡ false → P
 no_false e = cc
 
+-- fields that the test finds the same are the same
 pub same_field : (f g : Field) → same f g ≡ true → f ≡ g
 same_field Year Year h = refl
 same_field Month Month h = refl
@@ -26,6 +27,7 @@ same_field Second Second h = refl
 same_field Millisecond Millisecond h = refl
 same_field f g h = no_true h
 
+-- a field is found the same as itself
 pub same-refl : (f : Field) → same f f ≡ true
 same-refl Year = refl
 same-refl Month = refl
@@ -49,6 +51,7 @@ pub record Begins (text : List ℕ) : Type 0 where
   pub letter : is_plain byte ≡ false
   pub no_quote : is_quote byte ≡ false
 
+-- the letters of each field begin with a byte that is neither plain nor a quote
 pub letters_begin : (f : Field) → Begins (letters f)
 letters_begin Year = record { byte = 121; behind = _; is = refl; letter = refl; no_quote = refl }
 letters_begin Month = record { byte = 77; behind = _; is = refl; letter = refl; no_quote = refl }
@@ -165,6 +168,7 @@ none_behind front text rest e hf some none all pattern =
     first_of [] t h = let n : 0 ≡ length rest = ap length t in omega arith
     first_of (p ∷ more) t h = none p (flat_map spelled more) h.0 (sym t)
 
+-- where each field stands once, none that stands before a piece is that piece's
 pub once_before : (front more : List Piece) (p : Piece) → are_once (front ++ p ∷ more) ≡ true → repeats front p ≡ false
 once_before front more (Plain c) h = refl
 once_before front more (Quoted text) h = refl
@@ -210,6 +214,7 @@ pub right_more : (front : List Piece) (p : Piece) → AllByRecursion IsPiece fro
 right_more [] p hf hp = (hp, tt)
 right_more (q ∷ front) p hf hp = (hf.0, right_more front p hf.1 hp)
 
+-- fields still stand once with a piece more whose field was not there
 pub once_more : (front : List Piece) (p : Piece) → are_once front ≡ true → repeats front p ≡ false → are_once (front ++ p ∷ []) ≡ true
 once_more [] (Digits f) h n = refl
 once_more [] (Plain c) h n = refl
@@ -274,6 +279,7 @@ pub record IsFront (text rest : List ℕ) (pieces : List Piece) : Type 0 where
   pub right : AllByRecursion IsPiece pieces
   pub once : are_once pieces ≡ true
 
+-- a part more that fits behind a front makes a longer front
 pub front_more : (parts : List Part) (p : Part) (text rest next : List ℕ) → IsFront text rest (map piece parts) → rest ≡ spelled (piece p) ++ next → IsPiece (piece p) → repeats (map piece parts) (piece p) ≡ false → IsFront text next (map piece (parts ++ p ∷ []))
 front_more parts p text rest next h e right fresh =
     let ps = map piece parts in
@@ -285,6 +291,7 @@ front_more parts p text rest next h e right fresh =
       once = once_more ps (piece p) h.once fresh;
     })
 
+-- before the first part
 pub front_none : (text rest : List ℕ) → text ≡ rest → IsFront text rest []
 front_none text rest e = record { is = e; right = tt; once = refl }
 
@@ -293,10 +300,12 @@ pub whole_is : (text rest : List ℕ) (pieces : List Piece) → IsFront text res
 whole_is text [] pieces h none = record { is = h.is ∙ append-nil (flat_map spelled pieces); right = h.right; once = h.once }
 whole_is text (c ∷ rest) pieces h none = absurd (omega arith)
 
+-- a rest whose length is not zero has a byte
 pub some_left : (rest : List ℕ) → (length rest == 0) ≡ false → 0 < length rest
 some_left [] h = no_false h
 some_left (c ∷ rest) h = omega arith
 
+-- a rest whose length is zero has none
 pub none_left : (rest : List ℕ) → (length rest == 0) ≡ true → length rest ≡ 0
 none_left [] h = refl
 none_left (c ∷ rest) h = absurd (omega (arith, (Decides-eqb (length (c ∷ rest)) 0).0 h))

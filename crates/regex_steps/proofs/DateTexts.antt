@@ -41,6 +41,7 @@ both false b ea eb = no_true ea
 
 -- Digits and numbers.
 
+-- two texts in a row are digits where both are
 pub are_digits-append : (s t : List ℕ) → are_digits (s ++ t) ≡ (are_digits s && are_digits t)
 are_digits-append [] t = refl
 are_digits-append (c ∷ s) t = rw (are_digits-append s t) (and_assoc (is_ascii_digit c) (are_digits s) (are_digits t))
@@ -49,6 +50,7 @@ are_digits-append (c ∷ s) t = rw (are_digits-append s t) (and_assoc (is_ascii_
     and_assoc true b c = refl
     and_assoc false b c = refl
 
+-- a number is written in as many digits as it is asked for
 pub length-digits : (k n : ℕ) → length (digits k n) ≡ k
 unfolding digits
 length-digits zero n = refl
@@ -57,6 +59,7 @@ length-digits (suc k) n = length-append (digits k (n / 10)) ((48 + n % 10) ∷ [
 is_digit : (d : ℕ) → d < 10 → is_ascii_digit (48 + d) ≡ true
 is_digit d h = grind arith
 
+-- the digits of a number are digits
 pub are_digits-digits : (k n : ℕ) → are_digits (digits k n) ≡ true
 unfolding digits
 are_digits-digits zero n = refl
@@ -64,6 +67,7 @@ are_digits-digits (suc k) n =
     are_digits-append (digits k (n / 10)) ((48 + n % 10) ∷ [])
     ∙ both _ _ (are_digits-digits k (n / 10)) (both _ _ (is_digit (n % 10) (omega arith)) refl)
 
+-- the number of a text with a digit more
 pub number-more : (s : List ℕ) (c : ℕ) → number (s ++ c ∷ []) ≡ number s * 10 + (c - 48)
 number-more s c = fold-append (λ (n c : ℕ). n * 10 + (c - 48)) 0 s (c ∷ [])
 
@@ -102,6 +106,7 @@ digits-number (suc k) (c ∷ text) e h =
 
 -- Fields.
 
+-- a field that is set has its number, and the others keep theirs
 pub value-with : (t : CivilTime) (f g : Field) (n : ℕ) → value (with_value t f n) g ≡ (if same f g then n else value t g)
 value-with t Year Year n = refl
 value-with t Month Month n = refl
@@ -112,6 +117,7 @@ value-with t Second Second n = refl
 value-with t Millisecond Millisecond n = refl
 value-with t f g n = refl
 
+-- the time in a text has of each field the number that stands there
 pub value-civil_in : (pieces : List Piece) (text : List ℕ) (f : Field) → value (civil_in pieces text) f ≡ value_at f pieces text
 value-civil_in pieces text Year = refl
 value-civil_in pieces text Month = refl
@@ -137,6 +143,7 @@ pub record HasRead (read left : List Piece) (text rest : List ℕ) (whole time :
   pub seen : (f : Field) → has f read ≡ true → value time f ≡ value whole f
   pub other : (f : Field) → has f read ≡ false → (value time f ≡ default f) × (value_at f left rest ≡ value whole f)
 
+-- before the first piece, every field has its default
 pub has_read_none : (pieces : List Piece) (text : List ℕ) (time : CivilTime) → ((f : Field) → value time f ≡ default f) → HasRead [] pieces text text (civil_in pieces text) time
 has_read_none pieces text time h = record {
   front = refl;
@@ -263,6 +270,7 @@ too_short f text h t rest e =
     let n : length text ≡ digit_count f + length rest = ap length e ∙ length-append (digits (digit_count f) (value t f)) rest ∙ ap (λ (m : ℕ). m + length rest) (length-digits (digit_count f) (value t f)) in
     omega arith
 
+-- where a field's bytes are not all digits, the field is not read
 pub no_digits : (f : Field) (text : List ℕ) → are_digits (take (digit_count f) text) ≡ false → ReadsNot (Digits f) text
 no_digits f text h t rest e =
     let found = digits (digit_count f) (value t f) in
@@ -285,6 +293,7 @@ number_step text i n d lt digit d_is so_far n_is bound =
 pub quoted_not : (text literal : List ℕ) → starts_with nat_eq text literal ≡ false → ReadsNot (Quoted literal) text
 quoted_not text literal h t rest e = no_true (sym h ∙ (starts_is Decides-eqb text literal (starts_with nat_eq text literal) refl).1 rest e)
 
+-- a text that begins with a quoted one is that and the bytes behind it
 pub quoted_is : (text literal : List ℕ) → starts_with nat_eq text literal ≡ true → text ≡ literal ++ drop (length literal) text
 quoted_is text literal h = (starts_is Decides-eqb text literal (starts_with nat_eq text literal) refl).0 h
 
@@ -303,16 +312,19 @@ module _ (parts : List Part) (i : ℕ) (p : Part) (lt : i < length parts) (is : 
   here : HasRead (map piece (take i parts)) (piece p ∷ map piece (drop (i + 1) parts)) text rest whole time
   here = let P : List Piece → Type 0 = λ left. HasRead (map piece (take i parts)) left text rest whole time in subst P (parts_split parts i p lt is).1 h
 
+  -- the part in front was read
   pub part_read : (next : List ℕ) (new : CivilTime) → are_once (map piece parts) ≡ true → Reads (piece p) rest next time new → HasRead (map piece (take (i + 1) parts)) (map piece (drop (i + 1) parts)) text next whole new
   part_read next new once r =
       let split = parts_split parts i p lt is in
       let P : List Piece → Type 0 = λ read. HasRead read (map piece (drop (i + 1) parts)) text next whole new in
       subst P (sym split.0) (reads_more (map piece (take i parts)) (map piece (drop (i + 1) parts)) (piece p) text rest next whole time new (ap are_once (sym split.2) ∙ once) r here)
 
+  -- where the part in front was not read, the text is not that of the whole
   pub part_not_read : ReadsNot (piece p) rest → text ≡ flat_map (shown whole) (map piece parts) → ⊥
   part_not_read not e =
       reads_no_more (map piece (take i parts)) (map piece (drop (i + 1) parts)) (piece p) text rest whole time not here (e ∙ ap (flat_map (shown whole)) (parts_split parts i p lt is).2)
 
+-- after the last part all of them were read
 pub parts_read : (parts : List Part) (i : ℕ) (text rest : List ℕ) (whole time : CivilTime) → length parts ≤ i → HasRead (map piece (take i parts)) (map piece (drop i parts)) text rest whole time → HasRead (map piece parts) [] text rest whole time
 parts_read parts i text rest whole time le h =
     let none : drop i parts ≡ [] = drop_of_length-le parts le in
@@ -328,6 +340,7 @@ date_is pieces text time is spelled =
     let same : bytes_eq text (flat_map (shown t) pieces) ≡ true = (bytes_eq-Decides text (flat_map (shown t) pieces)).1 (spelled ∙ ap (λ (u : CivilTime). flat_map (shown u) pieces) is) in
     ap (λ (u : CivilTime). if is_day u && is_time u then Some (milliseconds u) else None) is ∙ rw same refl
 
+-- a text that is not spelled as its own time is no date
 pub no_date_is : (pieces : List Piece) (text : List ℕ) → (text ≡ flat_map (shown (civil_in pieces text)) pieces → ⊥) → None ≡ milliseconds_in pieces text
 no_date_is pieces text not =
     let t = civil_in pieces text in
@@ -337,5 +350,6 @@ no_date_is pieces text not =
     either true e = absurd (not ((bytes_eq-Decides text _).0 e))
     either false e = rw e refl
 
+-- to take all that is left after an offset takes all of it
 pub take_all : (k : ℕ) (text : List ℕ) → take (length text - k) (drop k text) ≡ drop k text
 take_all k text = grind (arith, common_steps)

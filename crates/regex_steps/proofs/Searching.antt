@@ -11,9 +11,11 @@ is_not : (b : Bool) → (b ≡ true → ⊥) → b ≡ false
 is_not true h = absurd (h refl)
 is_not false h = refl
 
+-- the test finds a body to be a text where it is UTF-8
 pub is_text : (body : List ℕ) → IsUtf8 body → is_utf8 body ≡ true
 is_text body u = is_utf8-from_IsUtf8 body u
 
+-- the test finds no text where a body is not UTF-8
 pub no_text : (body : List ℕ) → (IsUtf8 body → ⊥) → is_utf8 body ≡ false
 no_text body h = is_not (is_utf8 body) (λ e. h (IsUtf8-from_is_utf8 body e))
 

@@ -11,6 +11,7 @@ one_more [] (t ∷ ss) g s h one = absurd h
 one_more (f ∷ groups) [] g s h one = absurd h
 one_more (f ∷ groups) (t ∷ ss) g s h one = (h.0, one_more groups ss g s h.1 one)
 
+-- the serializers made so far, and that of one more group
 pub serializers_more : (groups : List Group) (i : ℕ) (g : Group) (made : List declared.Serializer) (s : declared.Serializer) → i < length groups → g ≡ get_or groups i g → AreSerializers (take i groups) (serializers_of made) → IsSerializer g (serializer_of s) → AreSerializers (take (i + 1) groups) (serializers_of (made ++ s ∷ []))
 serializers_more groups i g made s lt is h one =
     let P : List Group → Type 0 = λ gs. AreSerializers gs (serializers_of (made ++ s ∷ [])) in

@@ -86,6 +86,7 @@ gives_up_puts r txn pointers table is ended count =
       next = refl;
     }
 
+-- a transaction of takes that ends frees the numbers that it held
 pub gives_up_takes : (r : Indexing) (txn : ℕ) (numbers : List ℕ) (table : Table) (ring : Index) → option_map (λ (o : Open). o.listed) (open_at r.table txn) ≡ Some (Takes numbers) → HasAt txn None r.table table → length table + 1 ≡ length r.table
     → ring ≡ record r.ring { live = freed numbers r.ring.live } → IsGivenUp txn r (record r { ring = ring; table = table })
 gives_up_takes r txn numbers table ring is ended count freed_is =

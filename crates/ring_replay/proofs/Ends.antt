@@ -100,11 +100,13 @@ replayed_count logs now dropped count is drops same =
 
 -- of answers
 
+-- what follows of a ring within its capacity follows of an answer Ok
 pub within_ok : (r : Result Replayed ReplayRefused) (index : Indexing) (capacity : ℕ) (Q : Replayed → Type 0) → ((x : Replayed) → x.ring ≡ record index.ring { slots = capacity } → x.next ≡ index.next → length index.ring.live ≤ capacity → Q x)
     → IfOk r (λ x. (x.ring ≡ record index.ring { slots = capacity }) × (x.next ≡ index.next) × (length index.ring.live ≤ capacity)) → IfOk r Q
 within_ok (Ok x) index capacity Q maps is = maps x is.0 is.1 is.2
 within_ok (Err e) index capacity Q maps is = tt
 
+-- what follows of a count over the capacity follows of that refusal
 pub within_over : (r : Result Replayed ReplayRefused) (index : Indexing) (capacity : ℕ) (Q : ℕ → Type 0) → ((count : ℕ) → count ≡ length index.ring.live → capacity < count → Q count)
     → IfErr r (λ e. WhereOver e (λ count. (count ≡ length index.ring.live) × (capacity < count))) → IfErr r (λ e. WhereOver e Q)
 within_over (Ok x) index capacity Q maps is = tt

@@ -27,6 +27,7 @@ use Rattle.ring_replay.proofs.Standing.{stand_back, stand_cons, stand_front}
 
 -- lines after lines
 
+-- what went through lines and then through others went through both
 pub applies_append : (a b : List Line) (old mid new : Indexing) → GoesThrough a old mid → GoesThrough b mid new → GoesThrough (a ++ b) old new
 applies_append a b old mid new first second places s past stand keeps =
     let one = first places s past (stand_front places a b stand) keeps in
@@ -49,6 +50,7 @@ pub record ReadsOn (was told : Option Told) (faulty faults file : ℕ) (first re
   pub kept : IsKept now
   pub on : (bytes : List ℕ) (items : List (Rec × ℕ)) (fault : Option ℕ) → HasFile was file bytes → Remains first bytes items fault → ReadUpTo file reader bytes items fault start now none steps
 
+-- before the first record nothing is read and nothing applied
 pub reads_none : (was : Option Told) (faulty file : ℕ) (first : Reader) (start : Indexing) (none : ℕ) → first.file ≡ file → IsKept start → ReadsOn was was faulty faulty file first first start start none none
 reads_none was faulty file first start none is kept = record {
   same = refl;
@@ -82,6 +84,7 @@ OutlinesOf told reader given next = (bytes : List ℕ) (items : List (Rec × ℕ
 abbrev pub AppliesOne : ℕ → ℕ → Outline → Indexing → Indexing → Type 0
 AppliesOne file at outline old new = ((rec : Rec) → outline ≡ outline_of rec → GoesThrough (Stands file at rec ∷ []) old new) × IsKept new
 
+-- one record more was read and applied
 pub reads_more : (was told after : Option Told) (faulty faults more_faults file : ℕ) (first reader next : Reader) (start now new : Indexing) (none steps more_steps at : ℕ) (outline : Outline)
     → ReadsOn was told faulty faults file first reader start now none steps → OutlinesOf told reader (Some (outline, at)) next → next.file ≡ reader.file → more_steps ≡ steps + 1 → AppliesOne file at outline now new → after ≡ told → more_faults ≡ faults
     → ReadsOn was after faulty more_faults file first next start new none more_steps
@@ -106,6 +109,7 @@ reads_more was told after faulty faults more_faults file first reader next start
       };
 }
 
+-- at the end of the file all its records were applied, and it has no fault
 pub reads_end : (was told : Option Told) (faulty faults file : ℕ) (first reader next : Reader) (start now : Indexing) (none steps : ℕ)
     → ReadsOn was told faulty faults file first reader start now none steps → OutlinesOf told reader None next
     → (bytes : List ℕ) (items : List (Rec × ℕ)) (fault : Option ℕ) → HasFile was file bytes → Remains first bytes items fault → GoesThrough (record_lines file items ++ fault_lines file fault) start now
@@ -121,6 +125,7 @@ abbrev pub FaultOf : Option Told → ℕ → Reader → Indexing → ℕ → ℕ
 FaultOf was file first start f at =
     (bytes : List ℕ) (items : List (Rec × ℕ)) (fault : Option ℕ) → HasFile was file bytes → Remains first bytes items fault → StopsIn (record_lines file items ++ fault_lines file fault) start f at
 
+-- a frame at fault is the first fault of the file
 pub reads_fault : (was told : Option Told) (faulty faults file : ℕ) (first reader : Reader) (start now : Indexing) (none steps : ℕ) (e : FrameRefused)
     → ReadsOn was told faulty faults file first reader start now none steps
     → FrameBad e (λ f at. (f ≡ reader.file) × ((bytes : List ℕ) (items : List (Rec × ℕ)) (fault : Option ℕ) → HasFile told reader.file bytes → Remains reader bytes items fault → (items ≡ []) × (fault ≡ Some at)))
@@ -149,6 +154,7 @@ reads_fault was told faulty faults file first reader start now none steps e on b
 abbrev pub StopsBy : Outline → ℕ → ℕ → Indexing → ℕ → ℕ → Type 0
 StopsBy outline file at now f a = (rec : Rec) → outline ≡ outline_of rec → IsAt (Stands file at rec) f a × StopsAt (Stands file at rec) now
 
+-- a record that is not legal is the first fault of the file
 pub reads_illegal : (was told : Option Told) (faulty faults file : ℕ) (first reader next : Reader) (start now : Indexing) (none steps at : ℕ) (outline : Outline) (e : RecoverRefused)
     → ReadsOn was told faulty faults file first reader start now none steps → OutlinesOf told reader (Some (outline, at)) next
     → WhereBad e (λ f a. StopsBy outline file at now f a)
@@ -181,11 +187,13 @@ reads_illegal was told faulty faults file first reader next start now none steps
     maps (records.BadLog f a) h = fault_there f a h
     maps records.NoMemory h = tt
 
+-- the steps so far are no more than the file's records allow
 pub reads_ticks : (was told : Option Told) (faulty faults file : ℕ) (first reader : Reader) (start now : Indexing) (none steps more : ℕ) → ReadsOn was told faulty faults file first reader start now none steps → more ≡ steps → StepsOf was file first none more
 reads_ticks was told faulty faults file first reader start now none steps more on is bytes items fault has remains =
     let u = on.on bytes items fault has remains in
     omega (arith, is, u.ticks, ap length u.split, length-append u.done u.rest)
 
+-- one step more is allowed where one record more was read
 pub reads_one_tick : (was told : Option Told) (faulty faults file : ℕ) (first reader next : Reader) (start now : Indexing) (none steps more at : ℕ) (outline : Outline)
     → ReadsOn was told faulty faults file first reader start now none steps → OutlinesOf told reader (Some (outline, at)) next → more ≡ steps + 1 → StepsOf was file first none more
 reads_one_tick was told faulty faults file first reader next start now none steps more at outline on gives is bytes items fault has remains =
@@ -196,10 +204,12 @@ reads_one_tick was told faulty faults file first reader next start now none step
 
 -- a file from its begin on
 
+-- a whole file was applied: what its begin drops, and then its records
 pub file_applies : (file : ℕ) (content : Content) (drops : Bool) (old mid new : Indexing) → drop_lines drops ≡ begin_lines content → GoesThrough (drop_lines drops) old mid → GoesThrough (record_lines file (content_items content) ++ fault_lines file (fault_of content)) mid new → GoesThrough (file_lines file content) old new
 file_applies file content drops old mid new same begins rest =
     applies_append (begin_lines content) (record_lines file (content_items content) ++ fault_lines file (fault_of content)) old mid new (subst (λ (l : List Line). GoesThrough l old mid) same begins) rest
 
+-- a fault among a file's records is the fault of the whole file
 pub file_fault : (file : ℕ) (content : Content) (drops : Bool) (old mid : Indexing) (f at : ℕ) → drop_lines drops ≡ begin_lines content → GoesThrough (drop_lines drops) old mid
     → StopsIn (record_lines file (content_items content) ++ fault_lines file (fault_of content)) mid f at → StopsIn (file_lines file content) old f at
 file_fault file content drops old mid f at same begins fault places s past stand keeps =

@@ -139,6 +139,7 @@ folders_all was told faulty faults after now none steps on ends t is logs are =
     let all : u.done ≡ logs = sym (append-nil u.done) ∙ ap (λ (l : List LogFile). u.done ++ l) (sym (no_rest t.reads after u.rest u.are (ends t (on.same ∙ is)))) ∙ sym u.split in
     (subst (λ (l : List LogFile). AreSound empty_base [] (lines l)) all u.sound, λ places stand. subst (λ (l : List LogFile). Keeps places empty_start (past_lines [] (lines l)) now) all (u.keeps places stand))
 
+-- the steps so far are no more than the folder's records
 pub folders_ticks : (was told : Option Told) (faulty faults from : ℕ) (now : Indexing) (none steps more : ℕ) → FoldersOn was told faulty faults from now none steps → more ≡ steps → WhereTold was (λ t. WhereLogs t.reads (λ logs. more ≤ none + record_count (lines logs)))
 folders_ticks was told faulty faults from now none steps more on same t is logs are =
     let u = on.on t is logs are in
@@ -167,6 +168,7 @@ folders_bad was told faulty faults after file now none steps e on next high bad 
     (fault_front empty_base [] (lines u.done ++ file_lines file n.log.content) (lines n.more) f at (fault_append empty_base [] (lines u.done) (file_lines file n.log.content) f at u.sound fault)))
     bad
 
+-- the steps within the next file are no more than the folder's records
 pub folders_few : (was told : Option Told) (faulty faults : ℕ) (after : Option FileName) (file : ℕ) (now : Indexing) (none steps more_steps : ℕ)
     → FoldersOn was told faulty faults (floor after) now none steps → WhereTold told (λ t. IsNext t.reads after (Some (Log file))) → file < 2 ^ 32
     → WhereHolds told file (λ content. more_steps ≤ steps + record_count (file_lines file content))
@@ -182,6 +184,7 @@ folders_few was told faulty faults after file now none steps more_steps on next 
     ∙ ap (λ (l : List Line). lines u.done ++ (l ++ lines n.more)) (sym its) in
     omega (arith, u.ticks, ticks n.bytes n.log.content has n.holds, ap record_count all, record_count-append (lines u.done) (file_lines file n.log.content ++ lines n.more), record_count-append (file_lines file n.log.content) (lines n.more))
 
+-- before the first file nothing is read
 pub folders_none : (was : Option Told) (faulty : ℕ) (now : Indexing) (none : ℕ) → ((places : Places) → Keeps places empty_start [] now) → FoldersOn was was faulty faulty 0 now none none
 folders_none was faulty now none keeps = record {
   same = refl;

@@ -40,6 +40,7 @@ same_some places None (Some entry) is = absurd is
 same_some places (Some o) None is = absurd is
 same_some places (Some o) (Some entry) is = refl
 
+-- a transaction adds one to those that are open, where it was not open yet
 pub added_count : (past : Past) (txn before : ℕ) (o : Option Open) → is_some o ≡ is_some_of (opened txn past) → before ≡ length (open_txns past) → before + (cond (is_some o) 0 1) ≡ length (added_txn txn (open_txns past))
 added_count past txn before o same count = by_test (is_some_of (opened txn past)) (among_open past txn) same
   where
@@ -93,6 +94,7 @@ may_not_put places count (Some o) (Some entry) has (inl kind) may = by_list o.li
 
 -- who holds what
 
+-- who holds what may be said by another test that holds of the same numbers
 pub held_maps : (P Q : ℕ → Type 0) (live : List Left) → ((n : ℕ) → (P n → Q n) × (Q n → P n)) → AllByRecursion (λ l. (l.held ≡ true) ↔ P l.number) live → AllByRecursion (λ l. (l.held ≡ true) ↔ Q l.number) live
 held_maps P Q [] both all = tt
 held_maps P Q (l ∷ live) both all = ((λ is. (both l.number).0 (all.0.0 is), λ is. all.0.1 ((both l.number).1 is)), held_maps P Q live both all.1)
@@ -138,6 +140,7 @@ kept_one places s past rec old new keeps none live slots top number txn held eac
       taken = taken;
     }
 
+-- a put into an open transaction is applied
 pub put_goes : (txn : ℕ) (place : Pointer) (old new : Indexing) (mid : Table) → IsTxn txn → IsOpened true txn old.table mid → HasAt txn (added (items.Put place) (open_at mid txn)) mid new.table → length new.table ≡ length mid
     → new.ring ≡ old.ring → new.slots ≡ old.slots → new.next.number ≡ old.next.number → new.next.txn ≡ max (txn + 1) old.next.txn → (event : Content) → GoesOn true old place (Put txn event) new
 put_goes txn place old new mid is opens put count ring slots number above event places s past stands keeps =
@@ -155,6 +158,7 @@ put_goes txn place old new mid is opens put count ring slots number above event 
           (put_taken s past txn event keeps.taken (is, may)),
     )
 
+-- a put that is barred by the table is not legal
 pub put_barred : (txn : ℕ) (place : Pointer) (old new : Indexing) → IsBarred true txn old.table → (event : Content) → GoesOn false old place (Put txn event) new
 put_barred txn place old new barred event places s past stands keeps legal =
     may_not_put places (length (open_txns past)) (open_at old.table txn) (opened txn past) (keeps.each txn) (fewer barred) legal.1
@@ -163,6 +167,7 @@ put_barred txn place old new barred event places s past stands keeps legal =
     fewer (inl kind) = inl kind
     fewer (inr full) = inr (full.0, omega (arith, full.1, keeps.as_many))
 
+-- an opened transaction of puts may be given one more put
 pub may_add_put : (txn : ℕ) (place : Pointer) (old mid : Table) → IsOpened true txn old mid → MayAdd (items.Put place) (open_at mid txn)
 may_add_put txn place old mid opens = rw opens.here.here_is (by_list opens.opened.listed (ap is_puts opens.listed ∙ opens.kind), opens.room)
   where

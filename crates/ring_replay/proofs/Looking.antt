@@ -22,6 +22,7 @@ free_here P l n same free held p = by_test l.held free (held (rw same p))
     by_test true is there = let e : false ≡ true = is in cc
     by_test false is there = let e : false ≡ true = there in cc
 
+-- an event that a look shows free is left and held by none
 pub looked_free : (P : ℕ → Type 0) (places : Places) (live : List Left) (items : List (ℕ × Content)) (n : ℕ) → HasItems places live items → AllByRecursion (λ l. (l.held ≡ true) ↔ P l.number) live → free_of (look_at n live) ≡ true → IsFree P live items n
 looked_free P places [] [] n has held is = absurd (let e : false ≡ true = is in cc)
 looked_free P places [] (item ∷ items) n has held is = absurd has
@@ -36,6 +37,7 @@ looked_free P places (l ∷ live) (item ∷ items) n has held is = from (eqb_tel
         let r : IsFree P live items n = rest (rw other.0 at is') in
         record { live_one = inr r.live_one; left_one = rw there.0 r.left_one; not_held = r.not_held }
 
+-- an event that is left and that a look does not show free is held
 pub looked_taken : (P : ℕ → Type 0) (places : Places) (live : List Left) (items : List (ℕ × Content)) (n : ℕ) → HasItems places live items → AllByRecursion (λ l. (l.held ≡ true) ↔ P l.number) live → free_of (look_at n live) ≡ false
     → is_among (map (λ (item : ℕ × Content). item.0) items) n ≡ true → P n
 looked_taken P places [] [] n has held is left_one = absurd (let e : false ≡ true = left_one in cc)

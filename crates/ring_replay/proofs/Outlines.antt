@@ -46,10 +46,12 @@ at_place : (legal : Bool) (file at : ℕ) (old new : Indexing) (place : Pointer)
 at_place legal file at old new place outline rec is same goes =
     subst (λ (p : Pointer). GoesOn legal old p rec new) (is ∙ ap (placed_by file at) same) (goes_on legal old new place outline rec same goes)
 
+-- a legal outline was applied, and so the line of each record of it
 pub outline_goes : (legal : Bool) (file at : ℕ) (old new : Indexing) (place : Pointer) (outline : Outline) → legal ≡ true → place ≡ placed_by file at outline → GoesBy legal old place outline new → (rec : Rec) → outline ≡ outline_of rec → GoesThrough (Stands file at rec ∷ []) old new
 outline_goes true file at old new place outline legal is goes rec same = line_goes file at old new rec (at_place true file at old new place outline rec is same goes)
 outline_goes false file at old new place outline legal is goes rec same = absurd (let e : false ≡ true = legal in cc)
 
+-- an outline that is not legal puts the line of each record of it at fault
 pub outline_stops : (legal : Bool) (file at : ℕ) (old new : Indexing) (place : Pointer) (outline : Outline) → legal ≡ false → place ≡ placed_by file at outline → GoesBy legal old place outline new → (rec : Rec) → outline ≡ outline_of rec → StopsAt (Stands file at rec) old
 outline_stops false file at old new place outline legal is goes rec same = line_stops file at old new rec (at_place false file at old new place outline rec is same goes)
 outline_stops true file at old new place outline legal is goes rec same = absurd (let e : true ≡ false = legal in cc)

@@ -13,6 +13,7 @@ use Rattle.channel_replay.proofs.Numbers.{or_among}
 
 -- one more of a list
 
+-- what holds of a whole list holds at each place
 pub all_at : {A : Type 0} (P : A → Type 0) (xs : List A) (k : ℕ) (x : A) → AllByRecursion P xs → slice_get xs k ≡ Some x → P x
 all_at P [] k x all is = absurd (cc)
 all_at P (y ∷ xs) zero x all is = (let same : y ≡ x = cc in subst P same all.0)
@@ -20,10 +21,12 @@ all_at P (y ∷ xs) (suc k) x all is = all_at P xs k x all.1 is
 
 -- none is held
 
+-- freeing no numbers changes nothing
 pub freed_none : (live : List Left) → freed [] live ≡ live
 freed_none [] = refl
 freed_none (l ∷ live) = ap (λ (r : List Left). l ∷ r) (freed_none live)
 
+-- one number more is freed
 pub freed_more : (numbers : List ℕ) (n : ℕ) (live : List Left) → freed (numbers ++ n ∷ []) live ≡ marked n false (freed numbers live)
 freed_more numbers n [] = refl
 freed_more numbers n (l ∷ live) = rw (freed_more numbers n live, or_among numbers (n ∷ []) l.number) (by_test (is_among numbers l.number) (eqb_tells n l.number) (eqb_tells l.number n))
@@ -39,6 +42,7 @@ freed_more numbers n (l ∷ live) = rw (freed_more numbers n live, or_among numb
     by_test false (inr other) (inl back) = absurd (other.1 (sym back.1))
     by_test false (inr other) (inr back) = rw (other.0, back.0) refl
 
+-- an event that is left stays so as others are freed
 pub freed_live : (numbers : List ℕ) (n : ℕ) (live : List Left) → IsLive live n → IsLive (freed numbers live) n
 freed_live numbers n [] is = is
 freed_live numbers n (l ∷ live) (inl same) = inl (by_test (is_among numbers l.number) ∙ same)
@@ -50,10 +54,12 @@ freed_live numbers n (l ∷ live) (inr is) = inr (freed_live numbers n live is)
 
 -- events that went
 
+-- without numbers no event goes
 pub lacking_none : (live : List Left) → lacking [] live ≡ live
 lacking_none [] = refl
 lacking_none (l ∷ live) = ap (λ (r : List Left). l ∷ r) (lacking_none live)
 
+-- one number more, whose event goes
 pub lacking_more : (numbers : List ℕ) (n : ℕ) (live : List Left) → lacking (numbers ++ n ∷ []) live ≡ lasting n (lacking numbers live)
 lacking_more numbers n [] = refl
 lacking_more numbers n (l ∷ live) = rw (lacking_more numbers n live, or_among numbers (n ∷ []) l.number) (by_test (is_among numbers l.number) (eqb_tells n l.number) (eqb_tells l.number n))
@@ -68,6 +74,7 @@ lacking_more numbers n (l ∷ live) = rw (lacking_more numbers n live, or_among 
     by_test false (inr other) (inl back) = absurd (other.1 (sym back.1))
     by_test false (inr other) (inr back) = rw (other.0, back.0) refl
 
+-- an event whose number is not among those that go is still left
 pub lacking_live : (numbers : List ℕ) (n : ℕ) (live : List Left) → is_among numbers n ≡ false → IsLive live n → IsLive (lacking numbers live) n
 lacking_live numbers n [] isnt is = is
 lacking_live numbers n (l ∷ live) isnt (inl same) = by_test (is_among numbers l.number) (ap (λ (m : ℕ). is_among numbers m) same ∙ isnt)
@@ -107,16 +114,19 @@ apart_before (x ∷ numbers) (suc k) n apart is = from (eqb_tells x n) (apart_be
 
 -- events that came
 
+-- one event more is placed, behind the others
 pub placed_more : (first : ℕ) (pointers : List Pointer) (p : Pointer) → placed first (pointers ++ p ∷ []) ≡ placed first pointers ++ record { number = first + length pointers; pointer = p; held = false } ∷ []
 placed_more first [] p = ap (λ (n : ℕ). record { number = n; pointer = p; held = false } ∷ []) (omega arith)
 placed_more first (x ∷ pointers) p =
     ap (λ (r : List Left). record { number = first; pointer = x; held = false } ∷ r) (placed_more (first + 1) pointers p
     ∙ ap (λ (n : ℕ). placed (first + 1) pointers ++ record { number = n; pointer = p; held = false } ∷ []) (omega arith))
 
+-- each place gives one event
 pub length_placed : (first : ℕ) (pointers : List Pointer) → length (placed first pointers) ≡ length pointers
 length_placed first [] = refl
 length_placed first (x ∷ pointers) = omega (arith, length_placed (first + 1) pointers)
 
+-- before the first event the ring is as it was
 pub appended_none : (first : ℕ) (ring : Index) → ring.top ≤ first → IsAppended first [] ring ring
 appended_none first ring above = record { slots = refl; top = omega (arith, above); live = sym (append-nil ring.live) }
 
@@ -131,6 +141,7 @@ take_whole [] (suc k) all = refl
 take_whole (x ∷ xs) zero all = absurd (omega (arith, all))
 take_whole (x ∷ xs) (suc k) all = ap (λ (l : List _). x ∷ l) (take_whole xs k (omega (arith, all)))
 
+-- one event more was added at the end of the ring
 pub appended_more : (first k : ℕ) (pointers : List Pointer) (d : Pointer) (old ring new : Index) → k < length pointers → IsAppended first (take k pointers) old ring
     → new ≡ record { slots = ring.slots; top = first + k + 1; live = ring.live ++ record { number = first + k; pointer = get_or pointers k d; held = false } ∷ [] }
     → IsAppended first (take (k + 1) pointers) old new
@@ -156,5 +167,6 @@ appended_room first k pointers old ring less on room =
       omega (arith, ap (λ (l : List Left). length l) on.live, length-append old.live (placed first (take k pointers)), length_placed first (take k pointers), long, on.slots, room, less),
     )
 
+-- after the last place all events were added
 pub appended_all : (first k : ℕ) (pointers : List Pointer) (old ring : Index) → length pointers ≤ k → IsAppended first (take k pointers) old ring → IsAppended first pointers old ring
 appended_all first k pointers old ring all on = subst (λ (l : List Pointer). IsAppended first l old ring) (take_whole pointers k all) on

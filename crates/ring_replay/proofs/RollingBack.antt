@@ -65,6 +65,7 @@ held_behind s past txn n once there h = from (eqb_tells txn h.0) h.1
     from (inl same) is = let here = rw same.0 at is in let e : false ≡ true = here in cc
     from (inr other) is = other.1 (once txn h.0 n there (rw other.0 at is))
 
+-- who holds a number that the transaction did not take is as before
 pub held_still : (past : Past) (txn n : ℕ) → is_among (numbers_of (opened txn past)) n ≡ false → (IsHeld past n → IsHeld (Applied (Rollback txn) ∷ past) n) × (IsHeld (Applied (Rollback txn) ∷ past) n → IsHeld past n)
 held_still past txn n isnt = (λ h. (h.0, to h.0 (eqb_tells txn h.0) h.1), λ h. (h.0, from h.0 (eqb_tells txn h.0) h.1))
   where
@@ -96,6 +97,7 @@ given_up txn places s past old new keeps some low up =
       taken = rollback_taken s past txn keeps.taken;
     }
 
+-- a rollback of an open transaction is applied
 pub rolls_back : (txn : ℕ) (place : Pointer) (old mid new : Indexing) → IsTxn txn → IsSome (open_at old.table txn) → IsGivenUp txn old mid
     → new.ring ≡ mid.ring → new.slots ≡ mid.slots → new.table ≡ mid.table → new.next.number ≡ mid.next.number → new.next.txn ≡ max (txn + 1) mid.next.txn → GoesOn true old place (Rollback txn) new
 rolls_back txn place old mid new is there up ring slots table number above places s past stands keeps =
@@ -125,6 +127,7 @@ rolls_back txn place old mid new is there up ring slots table number above place
     open_one None is' = absurd (cc)
     open_one (Some entry) is' = refl
 
+-- a transaction of some kind that is open is there
 pub some_open : (puts : Bool) (o : Option Open) → is_open puts o ≡ true → IsSome o
 some_open true None is = absurd (let e : false ≡ true = is in cc)
 some_open false None is = absurd (let e : false ≡ true = is in cc)

@@ -36,6 +36,7 @@ stand_front places (line ∷ a) b is =
     let s = stand_cons places line (a ++ b) is in
     stand_join places line a s.0 (stand_front places a b s.1)
 
+-- lines after others stand where both do
 pub stand_back : (places : Places) (a b : List Line) → LinesStand places (a ++ b) → LinesStand places b
 stand_back places [] b is = is
 stand_back places (line ∷ a) b is = stand_back places a b (stand_cons places line (a ++ b) is).1

@@ -27,6 +27,7 @@ wider_room o = by_test (nat_lt (size o.listed) o.room) refl
     by_test true is = ltb-true (size o.listed) o.room is
     by_test false is = omega arith
 
+-- a transaction that is open is given room for one more
 pub opens_wider : (puts : Bool) (txn : ℕ) (old new : Table) → is_open puts (open_at old txn) ≡ true → HasAt txn (option_map wider (open_at old txn)) old new → length new ≡ length old → IsOpened puts txn old new
 opens_wider puts txn old new is_one has count = from (open_at old txn) refl is_one has
   where

@@ -57,6 +57,7 @@ holds_others past txn number n other = (λ h. (h.0, to h.0 (eqb_tells txn h.0) h
     from t (inl there) = there
     from t (inr new) = absurd (other (sym new.1))
 
+-- a take of a free event is applied
 pub take_goes : (txn number : ℕ) (place : Pointer) (old new : Indexing) (mid : Table) → IsTxn txn → free_of (look_at number old.ring.live) ≡ true → IsOpened false txn old.table mid → HasAt txn (added (items.Take number) (open_at mid txn)) mid new.table → length new.table ≡ length mid
     → new.ring ≡ record old.ring { live = marked number true old.ring.live } → new.slots ≡ old.slots → new.next.number ≡ old.next.number → new.next.txn ≡ max (txn + 1) old.next.txn → GoesOn true old place (Take txn number) new
 take_goes txn number place old new mid is free opens put count ring slots number_is above places s past stands keeps =
@@ -81,6 +82,7 @@ take_goes txn number place old new mid is free opens put count ring slots number
       },
     )
 
+-- a take that is barred by the table is not legal
 pub take_barred : (txn number : ℕ) (place : Pointer) (old new : Indexing) → IsBarred false txn old.table → GoesOn false old place (Take txn number) new
 take_barred txn number place old new barred places s past stands keeps legal =
     may_not_take places (length (open_txns past)) (open_at old.table txn) (opened txn past) (keeps.each txn) (fewer barred) legal.1
@@ -89,6 +91,7 @@ take_barred txn number place old new barred places s past stands keeps legal =
     fewer (inl kind) = inl kind
     fewer (inr full) = inr (full.0, omega (arith, full.1, keeps.as_many))
 
+-- a take of an event that is not free is not legal
 pub take_refused : (txn number : ℕ) (place : Pointer) (old new : Indexing) → free_of (look_at number old.ring.live) ≡ false → GoesOn false old place (Take txn number) new
 take_refused txn number place old new free places s past stands keeps legal = legal.3 (looked_taken (IsHeld past) places old.ring.live (left s.base (journal past)) number keeps.items keeps.held free legal.2)
 

@@ -18,6 +18,7 @@ use Rattle.channel_replay.proofs.Keys.{Tells}
 use Rattle.channel_replay.proofs.Numbers.{or_among}
 use Rattle.channel_replay.proofs.Ordered.{IsOrdered, ordered_rec}
 
+-- numbers are in order where what is open takes events that are left
 pub ordered_of : (s : Start) (past : Past) → AreTaken s past → IsOrdered s.base past
 ordered_of s past are = record { rising = rising_base s.base are.base; held = are.held_below; taken = are.taken_below }
 
@@ -47,10 +48,12 @@ pub number_kept : (b : Bool) (entry old : Option Entry) (n : ℕ) → numbers_of
 number_kept true entry old n none is = absurd (let e : false ≡ true = ap (λ (l : List ℕ). is_among l n) (sym none) ∙ is in cc)
 number_kept false entry old n none is = is
 
+-- the numbers of one entry stay apart where it may be replaced by one without takes
 pub apart_kept : (b : Bool) (entry old : Option Entry) → numbers_of entry ≡ [] → AreApart (numbers_of old) → AreApart (numbers_of (cond b entry old))
 apart_kept true entry old none are = subst AreApart (sym none) tt
 apart_kept false entry old none are = are
 
+-- after a legal put what is open still takes events that are left, each once
 pub put_taken : (s : Start) (past : Past) (txn : ℕ) (event : Content) → AreTaken s past → IsLegal s.base past (Put txn event) → AreTaken s (Applied (Put txn event) ∷ past)
 put_taken s past txn event are legal =
     fewer s past (Put txn event) are legal
@@ -100,6 +103,7 @@ took past txn number t n is = from (eqb_tells txn t) is
     from (inl same) is' = with_same (split (is_among (numbers_of (opened t past)) n) (eqb_tells number n) (sym (or_among (numbers_of (opened t past)) (number ∷ []) n) ∙ rw same.0 at is')) same.1
     from (inr other) is' = inl (rw other.0 at is')
 
+-- and so it does after a legal take
 pub take_taken : (s : Start) (past : Past) (txn number : ℕ) → AreTaken s past → IsLegal s.base past (Take txn number) → AreTaken s (Applied (Take txn number) ∷ past)
 take_taken s past txn number are legal =
     let rec : Rec = Take txn number in

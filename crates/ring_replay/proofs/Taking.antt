@@ -8,6 +8,7 @@ use Rattle.ring_replay.specs.Indexing.{HasEntry, IsListed, IsOpened, Places, lis
 use Rattle.channel_replay.specs.Marks.{numbers_of}
 use Rattle.channel_replay.specs.Rules.{IsTake, MayGoOn}
 
+-- the table lists a take more as the entry does
 pub take_listed : (places : Places) (number : ℕ) (o : Option Open) (entry : Option Entry) → HasEntry places o entry → is_puts (listed_or false o) ≡ false → IsListed places (with_item (items.Take number) (listed_or false o)) (entries.Takes (numbers_of entry ++ number ∷ []))
 take_listed places number None None has kind = refl
 take_listed places number None (Some entry) has kind = absurd has
@@ -19,6 +20,7 @@ take_listed places number (Some o) (Some entry) has kind = by_list o.listed entr
     by_list (Takes numbers) (entries.Puts events) has kind = absurd has
     by_list (Takes numbers) (entries.Takes others) has kind = ap (λ (l : List ℕ). l ++ number ∷ []) has
 
+-- a take may go on where the table has no puts there and has room
 pub may_take : (places : Places) (count : ℕ) (o : Option Open) (entry : Option Entry) → HasEntry places o entry → is_puts (listed_or false o) ≡ false → (o ≡ None → count < 1024) → MayGoOn count entry IsTake
 may_take places count None None has kind may = may refl
 may_take places count None (Some entry) has kind may = absurd has
@@ -30,6 +32,7 @@ may_take places count (Some o) (Some entry) has kind may = by_list o.listed entr
     by_list (Takes numbers) (entries.Puts events) has kind = absurd has
     by_list (Takes numbers) (entries.Takes others) has kind = tt
 
+-- a take may not go on where the table has puts there or is full
 pub may_not_take : (places : Places) (count : ℕ) (o : Option Open) (entry : Option Entry) → HasEntry places o entry → (is_puts (listed_or false o) ≡ true) ⊎ ((o ≡ None) × (1024 ≤ count)) → MayGoOn count entry IsTake → ⊥
 may_not_take places count None None has (inl kind) may = absurd (cc)
 may_not_take places count None None has (inr full) may = omega (arith, full.1, may)
@@ -43,6 +46,7 @@ may_not_take places count (Some o) (Some entry) has (inl kind) may = by_list o.l
     by_list (Puts pointers) (entries.Takes numbers) has kind is = absurd has
     by_list (Puts pointers) (entries.Puts events) has kind is = absurd is
 
+-- an opened transaction of takes may be given one more take
 pub may_add_take : (txn number : ℕ) (old mid : Table) → IsOpened false txn old mid → MayAdd (items.Take number) (open_at mid txn)
 may_add_take txn number old mid opens = rw opens.here.here_is (by_list opens.opened.listed (ap is_puts opens.listed ∙ opens.kind), opens.room)
   where

@@ -8,6 +8,7 @@ use Rattle.event_core.specs.Content.{Content}
 use Rattle.roll_sink.specs.Parts.{HandedOn}
 use Rattle.roll_sink.specs.Rolls.{grow, roll_text, Grew, Stopped, Writes}
 
+-- no bytes at the end change nothing
 pub grow-nil : (files : List RollFile) → grow [] files ≡ files
 grow-nil [] = refl
 grow-nil (file ∷ []) = ap (λ (b : List ℕ). record { name = file.name; bytes = b } ∷ []) (append-nil file.bytes)
@@ -20,6 +21,7 @@ grow_some : (a : List ℕ) (file : RollFile) (files : List RollFile) → (next :
 grow_some a file [] = (record { name = file.name; bytes = file.bytes ++ a }, [], refl)
 grow_some a file (next ∷ files) = (file, grow a (next ∷ files), refl)
 
+-- bytes at the end and then more are all of them at once
 pub grow-append : (a b : List ℕ) (files : List RollFile) → grow b (grow a files) ≡ grow (a ++ b) files
 grow-append a b [] = refl
 grow-append a b (file ∷ []) = ap (λ (x : List ℕ). record { name = file.name; bytes = x } ∷ []) (append_assoc file.bytes a b)
@@ -27,6 +29,7 @@ grow-append a b (file ∷ next ∷ files) =
     let some = grow_some a next files in
     grow_front file a b (next ∷ files) (grow-append a b (next ∷ files)) some.0 some.1 some.2
 
+-- only the last file gets the bytes
 pub grow_last : (front : List RollFile) (last : RollFile) (bytes : List ℕ) → grow bytes (front ++ last ∷ []) ≡ front ++ record last { bytes = last.bytes ++ bytes } ∷ []
 grow_last [] last bytes = refl
 grow_last (file ∷ []) last bytes = refl
@@ -64,25 +67,32 @@ stopped_early a b r s stopped = record {
 pub grew_nothing : (r : Rolled) → Grew [] r r
 grew_nothing r = sym (grow-nil r.files)
 
+-- a call failed before it wrote anything
 pub stopped_at_once : (bytes : List ℕ) (r s : Rolled) → s.files ≡ r.files → s.failed ≡ true → Stopped bytes r s
 stopped_at_once bytes r s same failed = record { failed = failed; front = []; rest = bytes; split = refl; files = same ∙ sym (grow-nil r.files) }
 
+-- where nothing happened, nothing was written
 pub nothing_written : (told : Option Rolled) → Tells told told (Grew [])
 nothing_written told = tells_same told (Grew []) (λ r _. grew_nothing r)
 
+-- bytes were written, and then more of them
 pub more_written : (a b : List ℕ) (x y z : Option Rolled) → Tells x y (Grew a) → Tells y z (Grew b) → Tells x z (Grew (a ++ b))
 more_written a b x y z = follows x y z (Grew a) (Grew b) (Grew (a ++ b)) (λ r s t _ _ _ first second. grew_more a b r s t first second)
 
+-- bytes were written, and then a front of more before a failure
 pub then_stopped : (a b : List ℕ) (x y z : Option Rolled) → Tells x y (Grew a) → Tells y z (Stopped b) → Tells x z (Stopped (a ++ b))
 then_stopped a b x y z = follows x y z (Grew a) (Stopped b) (Stopped (a ++ b)) (λ r s t _ _ _ first second. grew_then_stopped a b r s t first second)
 
+-- after bytes that were written, a call that may fail writes more
 pub then_writes : (a b : List ℕ) (result : Result (Unit {0}) Failed) (x y z : Option Rolled) → Tells x y (Grew a) → Writes b result y z → Writes (a ++ b) result x z
 then_writes a b (Ok done) x y z first second = more_written a b x y z first second
 then_writes a b (Err failed) x y z first second = then_stopped a b x y z first second
 
+-- a failure within the first bytes is one within all of them
 pub fails_early : (a b : List ℕ) (x y : Option Rolled) → Tells x y (Stopped a) → Tells x y (Stopped (a ++ b))
 fails_early a b x y = tells_more x y (Stopped a) (Stopped (a ++ b)) (λ r s _ _ stopped. stopped_early a b r s stopped)
 
+-- bytes that were added are written
 pub added_written : (bytes : List ℕ) (x y : Option Rolled) → Tells x y (Added bytes) → Tells x y (Grew bytes)
 added_written bytes x y = tells_more x y (Added bytes) (Grew bytes) (λ r s _ _ added. grew_is bytes r.files s.files added.grew)
 
@@ -102,10 +112,12 @@ text-split batch zero = refl
 text-split [] (suc i) = refl
 text-split (x ∷ xs) (suc i) = ap (λ (l : List ℕ). x.body ++ 10 ∷ l) (text-split xs i) ∙ sym (append_assoc x.body (10 ∷ roll_text (take i xs)) (roll_text (drop i xs)))
 
+-- a call that answers an error stopped after a front
 pub writes_not : (bytes : List ℕ) (result : Result (Unit {0}) Failed) (x y : Option Rolled) → IsErr result → Tells x y (Stopped bytes) → Writes bytes result x y
 writes_not bytes (Ok done) x y is stopped = cc
 writes_not bytes (Err failed) x y is stopped = stopped
 
+-- bytes that were written are handed on, or the last call failed
 pub handed_on : (bytes : List ℕ) (result : Result (Unit {0}) Failed) (x y z : Option Rolled) → Tells x y (Grew bytes) → HandsOn result y z → MatchResult result (λ done. Tells x z (HandedOn bytes)) (λ failed. Tells x z (Stopped bytes))
 handed_on bytes (Ok done) x y z grew flushed = follows x y z (Grew bytes) (λ r s. s ≡ record r { flushed = true; failed = false }) (HandedOn bytes) (λ r s t _ _ _ first is. record { files = ap (λ (u : Rolled). u.files) is ∙ first; flushed = ap (λ (u : Rolled). u.flushed) is }) grew flushed
 handed_on bytes (Err failed) x y z grew refused = let P : List ℕ → Type 0 = λ l. Tells x z (Stopped l) in subst P (append-nil bytes) (failed_behind bytes [] x y z grew refused)

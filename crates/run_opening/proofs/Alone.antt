@@ -179,6 +179,7 @@ module _ {A B : Type 0} (wishes : List ChannelWish) (cs : List (OpenedChannel A 
   away_all [] all = tt
   away_all (o ∷ os) all = (away_one o all.0, away_all os all.1)
 
+-- no worker has the number of another or of the pass at home
 pub are_alone : {A B S N I O C K : Type 0} (wishes : List ChannelWish) (cs : List (OpenedChannel A B)) (fresh : AreFresh wishes cs) (plans : List SinkRow) (parts : Parts S N I O C K)
     (jobs : Workers Known S N I O C K) → IsStaff plans parts (hands wishes cs fresh) jobs → AreAlone (homes wishes cs fresh) (owners_of jobs)
 are_alone wishes cs fresh plans parts jobs staff =

@@ -36,6 +36,7 @@ module _ {K C : Type 0} (keepers : List (KeepSeat C)) (plans : List SinkRow) (li
   all_enough : Suffice hands (kept_channels keepers ++ behind)
   all_enough place = let u : length (hand_at hands place) ≡ count_of place (kept_channels keepers ++ behind) = undealt place in omega (arith, u)
 
+  -- there are passes enough for the workers that keep channels
   pub keepers_enough : Suffice hands (kept_channels keepers)
   keepers_enough = suffice_front hands (kept_channels keepers) behind all_enough
 
@@ -49,6 +50,7 @@ module _ {K C : Type 0} (keepers : List (KeepSeat C)) (plans : List SinkRow) (li
     behind_enough : Suffice zeroth behind
     behind_enough = suffice_back hands zeroth (kept_channels keepers) behind all_enough behind_keepers
 
+    -- after those, there are passes enough for the sinks
     pub sinks_enough : Suffice zeroth (channels_of plans)
     sinks_enough = suffice_front zeroth (channels_of plans) others behind_enough
 
@@ -62,6 +64,7 @@ module _ {K C : Type 0} (keepers : List (KeepSeat C)) (plans : List SinkRow) (li
       others_enough : Suffice first others
       others_enough = suffice_back zeroth first (channels_of plans) others behind_enough behind_sinks
 
+      -- after the sinks, there are passes enough for the listeners
       pub listeners_enough : Suffice first (flat_map seat_channels listeners)
       listeners_enough = suffice_front first (flat_map seat_channels listeners) (flat_map seat_channels lines) others_enough
 
@@ -72,11 +75,13 @@ module _ {K C : Type 0} (keepers : List (KeepSeat C)) (plans : List SinkRow) (li
             each_left listen_channels listen_ports first hearers second dealt' place
             ∙ ap (λ (l : List ℕ). length (hand_at second place) + count_of place l) (listen_places listeners hearers of')
 
+        -- after the listeners, there are passes enough for the workers of lines
         pub lines_enough : Suffice second (flat_map seat_channels lines)
         lines_enough = suffice_back first second (flat_map seat_channels listeners) (flat_map seat_channels lines) others_enough behind_listeners
 
         module _ {I O : Type 0} (readers : List (LineWorker Known I O C K)) (third : List (List Known)) (of'' : Zips IsLineOf lines readers)
             (dealt'' : DealsEach line_channels line_ports second readers third) where
+          -- after all workers, no pass is left to be dealt
           pub none_left : (place : ℕ) → hand_at third place ≡ []
           none_left place =
               let last = each_left line_channels line_ports second readers third dealt'' place

@@ -64,6 +64,7 @@ none_beyond n place (u ∷ uses) beyond all =
     not_one n place u beyond low = let is : (u == place) ≡ false = ne_eqb u place (λ e. omega (arith, beyond, low, e)) in rw is refl
 
 module _ {A B : Type 0} (wishes : List ChannelWish) (cs : List (OpenedChannel A B)) (fresh : AreFresh wishes cs) (uses : List ℕ) (used : AreUsed wishes uses) where
+  -- each channel has as many passes to deal as it has uses
   pub undealt : (place : ℕ) → length (hand_at (hands wishes cs fresh) place) ≡ count_of place uses
   undealt place =
       let many = fresh_many wishes cs fresh in
@@ -163,6 +164,7 @@ module _ {A B : Type 0} (shares' : List (EitherShared A B)) where
     lines_in : AllByRecursion (λ (j : LineWorker Known I O C K). Zips Holds (line_channels j) (line_ports j)) jobs.lines.items × InHands Holds staff.last
     lines_in = each_in Holds line_channels line_ports staff.behind_listeners jobs.lines.items staff.last staff.deals_lines listeners_in.1
 
+    -- each worker's passes are of its channels
     pub are_workers : AreWorkers table_of shares' (λ (pass : Known). pass) jobs
     are_workers = record {
       keepers = mapped (λ (j : KeepWorker Known C). Zips Holds (keep_channels j) (keep_ports j)) (λ (j : KeepWorker Known C). IsKeepPort table_of shares' (λ (pass : Known). pass) j)
@@ -175,6 +177,7 @@ module _ {A B : Type 0} (shares' : List (EitherShared A B)) where
           (λ j zips. firsts (line_channels j) (line_ports j) zips) jobs.lines.items lines_in.0;
     }
 
+    -- no worker's pass has made a call
     pub are_new : AreNew jobs
     are_new = record {
       keepers = mapped (λ (j : KeepWorker Known C). Zips Holds (keep_channels j) (keep_ports j)) (λ (j : KeepWorker Known C). IsNew j.port) (λ j zips. zips.0.1) jobs.keepers.items keepers_in.0;
@@ -187,6 +190,7 @@ module _ {A B : Type 0} (shares' : List (EitherShared A B)) where
 
 module _ {S N I O C K : Type 0} (plans : List SinkRow) (parts : Parts S N I O C K) (hands' : List (List Known)) (jobs : Workers Known S N I O C K)
     (staff : IsStaff plans parts hands' jobs) (homes' : List Known) (but : AreDealtBut homes' [] hands') where
+  -- each number of a channel is with its pass at home or with one worker
   pub are_dealt : AreDealt homes' (owners_of jobs)
   are_dealt =
       let z : List Owner = flat_map (λ (k : KeepWorker Known C). owners_at (keep_channels k) (keep_ports k)) jobs.keepers.items in
@@ -202,12 +206,14 @@ module _ {S N I O C K : Type 0} (plans : List SinkRow) (parts : Parts S N I O C 
 
 -- ---- the whole
 
+-- channels that were opened have fresh passes
 pub freshly : {A B : Type 0} (wishes : List ChannelWish) (cs : List (OpenedChannel A B)) → WereOpened wishes cs → AreFresh wishes cs
 freshly wishes cs opened = are_fresh wishes cs opened.0 opened.1 opened.2
 
 module _ {A B S N I O C K : Type 0} (plans : List SinkRow) (wishes : List ChannelWish) (cs : List (OpenedChannel A B)) (parts : Parts S N I O C K)
     (opened : WereOpened wishes cs) (used : AreUsed wishes (uses_of parts.keepers.items plans parts.listeners.items parts.lines.items))
     (folders : AreWantedInFolders wishes parts.keepers.items) (fit : AreFit (length wishes) parts) (crew : Crew A B S N I O C K) where
+  -- workers that the passes of opened channels were dealt to can run
   pub is_crew : crew.shares.items ≡ shares wishes cs (freshly wishes cs opened) → crew.homes.items ≡ homes wishes cs (freshly wishes cs opened) → IsStaff plans parts (hands wishes cs (freshly wishes cs opened)) crew.jobs
       → IsCrew plans cs parts crew
   is_crew same_shares same_homes staff = record {

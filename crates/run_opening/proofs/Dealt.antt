@@ -32,6 +32,7 @@ module _ (P : ℕ → Known → Type 0) where
             subst (AllByRecursion (P place)) (sym left) (all place)),
       )
 
+  -- what holds of the passes to be dealt holds of those dealt to one worker, and of the rest
   pub deals_in : (hands : List (List Known)) (places : List ℕ) (passes : List Known) (new : List (List Known)) → Deals hands places passes new → InHands P hands
       → Zips P places passes × InHands P new
   deals_in hands [] [] new is all = (tt, subst (InHands P) (sym is) all)
@@ -43,6 +44,7 @@ module _ (P : ℕ → Known → Type 0) where
       ((one.0, rest.0), rest.1)
 
   module _ {J : Type 0} (channels : J → List ℕ) (ports : J → List Known) where
+    -- what holds of the passes to be dealt holds of each worker's, and of the rest
     pub each_in : (hands : List (List Known)) (jobs : List J) (new : List (List Known)) → DealsEach channels ports hands jobs new → InHands P hands
         → AllByRecursion (λ (job : J). Zips P (channels job) (ports job)) jobs × InHands P new
     each_in hands [] new is all = (tt, subst (InHands P) (sym is) all)
@@ -66,6 +68,7 @@ module _ (homes : List Known) where
       subst (λ (x : List Owner). AreDealtBut homes x new) (append_assoc owners (o ∷ []) (owners_at places passes)) two
 
   module _ {J : Type 0} (channels : J → List ℕ) (ports : J → List Known) where
+    -- passes dealt to more workers have these as their owners
     pub each_owned : (hands : List (List Known)) (owners : List Owner) (jobs : List J) (new : List (List Known)) → DealsEach channels ports hands jobs new
         → AreDealtBut homes owners hands → AreDealtBut homes (owners ++ flat_map (λ (j : J). owners_at (channels j) (ports j)) jobs) new
     each_owned hands owners [] new is but =

@@ -82,18 +82,21 @@ AreFresh [] (c ∷ cs) = ⊥
 AreFresh (wish ∷ wishes) [] = ⊥
 AreFresh (wish ∷ wishes) (c ∷ cs) = IsFreshAt wish c × AreFresh wishes cs
 
+-- channels that were opened as wished have made no call
 pub are_fresh : {A B : Type 0} (wishes : List ChannelWish) (cs : List (OpenedChannel A B)) (a b : HostTold) → AreOpened wishes cs a b → AreFresh wishes cs
 are_fresh [] [] a b all = tt
 are_fresh [] (c ∷ cs) a b all = absurd all
 are_fresh (wish ∷ wishes) [] a b all = absurd all
 are_fresh (wish ∷ wishes) (c ∷ cs) a b all = (fresh_one a all.0 wish c all.1, are_fresh wishes cs all.0 b all.2)
 
+-- as many channels are fresh as were wished for
 pub fresh_many : {A B : Type 0} (wishes : List ChannelWish) (cs : List (OpenedChannel A B)) → AreFresh wishes cs → length cs ≡ length wishes
 fresh_many [] [] all = refl
 fresh_many [] (c ∷ cs) all = absurd all
 fresh_many (wish ∷ wishes) [] all = absurd all
 fresh_many (wish ∷ wishes) (c ∷ cs) all = let rest = fresh_many wishes cs all.1 in omega (arith, rest)
 
+-- the fresh channel at a place is as wished there
 pub fresh_at : {A B : Type 0} (wishes : List ChannelWish) (cs : List (OpenedChannel A B)) → AreFresh wishes cs → (place : ℕ) (w : ChannelWish) (d : OpenedChannel A B) → place < length cs
     → IsFreshAt (get_or wishes place w) (get_or cs place d)
 fresh_at [] [] all place w d below = absurd (omega (arith, below))
@@ -151,11 +154,13 @@ module _ {A B : Type 0} (wishes : List ChannelWish) (cs : List (OpenedChannel A 
       let many : length hands ≡ length cs = length-map (map (λ (c : OpenedChannel A B). c.others) cs) (λ (v : Vec Known Global). v.items) ∙ length-map cs (λ (c : OpenedChannel A B). c.others) in
       get_or_past hands place [] (omega (arith, beyond, many))
 
+  -- a channel has a pass to deal for each of its users
   pub hand_many : (place : ℕ) (w : ChannelWish) → place < length cs → length (hand_at hands place) ≡ (get_or wishes place w).users
   hand_many place w below =
       let d = some place below in
       ap length (hand_of place d below) ∙ (fresh_at wishes cs fresh place w d below).many
 
+  -- behind the last channel there is no pass to deal
   pub hand_none : (place : ℕ) → length cs ≤ place → length (hand_at hands place) ≡ 0
   hand_none place beyond = ap length (no_hand place beyond)
 
@@ -175,6 +180,7 @@ module _ {A B : Type 0} (wishes : List ChannelWish) (cs : List (OpenedChannel A 
     here = λ e. new.0 ∙ ap table_of (sym (share_of place (some place below) e below));
   }
 
+  -- there is a pass at home of each channel
   pub homes_are : AreHomes table_of shares homes
   homes_are = record {
     as_many = many_homes ∙ sym many_shares;
@@ -183,6 +189,7 @@ module _ {A B : Type 0} (wishes : List ChannelWish) (cs : List (OpenedChannel A 
         subst (IsAt table_of shares place) (sym (home_of place (some place low) d low)) (is_at place low (get_or cs place (some place low)).home (here place low).home);
   }
 
+  -- the pass at home of each channel carries a number of its own
   pub own_are : (place : ℕ) (d : Known) → place < length homes → HasOwn (get_or homes place d)
   own_are place d below =
       let low : place < length cs = omega (arith, below, many_homes) in
@@ -191,6 +198,7 @@ module _ {A B : Type 0} (wishes : List ChannelWish) (cs : List (OpenedChannel A 
       let n = (get_or wishes place (wish_there place low)).users + 1 in
       subst HasOwn (sym (home_of place (some place low) d low)) (first_own (table_of c.share) f.start n c.home c.others.items f.all)
 
+  -- before the first is dealt, no pass has an owner
   pub dealt_but : AreDealtBut homes [] hands
   dealt_but = λ place d below.
       let low : place < length cs = omega (arith, below, many_homes) in
@@ -205,6 +213,7 @@ module _ {A B : Type 0} (wishes : List ChannelWish) (cs : List (OpenedChannel A 
   each_at place below [] all = tt
   each_at place below (p ∷ ps) all = ((is_at place below p all.0, all.0.1), each_at place below ps all.1)
 
+  -- each pass to be dealt is of its channel and has made no call
   pub in_hands : InHands (λ place p. IsAt table_of shares place p × IsNew p) hands
   in_hands place =
       dite (dec_lt place (length cs))
@@ -225,6 +234,7 @@ module _ {A B : Type 0} (wishes : List ChannelWish) (cs : List (OpenedChannel A 
       let same : n ≡ suc (length c.others.items) = omega (arith, many) in
       subst (λ (x : ℕ × List Known). IsNumbered x.0 i (get_or x.1 i d)) (λ j. (same j, f.all j)) (numbered_new (table_of c.share) f.start n n i d (omega (arith, lt, same)))
 
+  -- the passes of each channel are to be dealt in the order of their numbers
   pub in_order : AreInOrder hands
   in_order place i d lt =
       dite (dec_lt place (length cs))

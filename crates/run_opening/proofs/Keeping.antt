@@ -85,6 +85,7 @@ module _ (uses : List ℕ) (plans : List ChannelPlan) (wishes : List ChannelWish
   each_wanted [] all = tt
   each_wanted (seat ∷ seats) all = (one_wanted seat all.0, each_wanted seats all.1)
 
+  -- a plan's channels with workers that keep them are wanted in folders
   pub are_wanted : {C : Type 0} (seats : List (KeepSeat C)) → map keep_of seats ≡ keeps_of plans → AreWantedInFolders wishes seats
   are_wanted seats same =
       All-from_recursion (IsWantedInFolder wishes) seats
@@ -129,6 +130,7 @@ module _ {A B : Type 0} (shares : List (EitherShared A B)) where
     each_on (seat ∷ seats) [] all of = absurd of
     each_on (seat ∷ seats) (job ∷ jobs) all of = (one_on seat job all.0 of.0, each_on seats jobs all.1 of.1)
 
+    -- each worker that keeps a channel has one on a disk
     pub all_on : {C : Type 0} (seats : List (KeepSeat C)) (jobs : List (KeepWorker Known C)) → AreWantedInFolders wishes seats → Zips IsKeepOf seats jobs
         → All (λ (job : KeepWorker Known C). (share : EitherShared A B) → IsDisk (get_or shares job.channel share)) jobs
     all_on {C} seats jobs all of =

@@ -15,14 +15,17 @@ halves : {X : Type 0} (P Q : X → Type 0) (xs : List X) → AllByRecursion (λ 
 halves P Q [] all = (tt, tt)
 halves P Q (x ∷ xs) all = let rest = halves P Q xs all.1 in ((all.0.0, rest.0), (all.0.1, rest.1))
 
+-- workers of sources that have all they ask for fit the channels
 pub seats_fit : {K C : Type 0} (count : ℕ) (seats : List (Seat K C)) → All (IsSeat count) seats → All (λ (s : Seat K C). IsFit count s.draft) seats
 seats_fit {K} {C} count seats all =
     All-from_recursion (λ (s : Seat K C). IsFit count s.draft) seats (halves (λ (s : Seat K C). IsFit count s.draft) (λ (s : Seat K C). IsRoomy s) seats (recursion_from_All (λ (s : Seat K C). IsSeat count s) seats all)).0
 
+-- workers of sources that have all they ask for have room for their passes
 pub seats_roomy : {K C : Type 0} (count : ℕ) (seats : List (Seat K C)) → All (IsSeat count) seats → All IsRoomy seats
 seats_roomy {K} {C} count seats all =
     All-from_recursion (λ (s : Seat K C). IsRoomy s) seats (halves (λ (s : Seat K C). IsFit count s.draft) (λ (s : Seat K C). IsRoomy s) seats (recursion_from_All (λ (s : Seat K C). IsSeat count s) seats all)).1
 
+-- room for as many is enough
 pub room_for : (a b room : ℕ) → a ≡ b → b ≤ room → a ≤ room
 room_for a b room same fits = omega (arith, same, fits)
 
@@ -36,6 +39,7 @@ taken_more a b c first last =
       handed = sym (ap (λ (s : HostState). s.handed) last) i;
     })
 
+-- the workers of sources fit as many channels as were prepared for
 pub parts_fit : {S N I O C K : Type 0} (a b : ℕ) (parts : Parts S N I O C K) → b ≡ a → All (IsSeat a) parts.listeners.items → All (IsSeat a) parts.lines.items → AreFit b parts
 parts_fit a b parts same listeners lines =
     subst (λ (n : ℕ). AreFit n parts) (sym same)

@@ -19,6 +19,7 @@ pub none_beside : {A B : Type 0} (xs : List A) (ys : List B) → xs ≡ [] → l
 none_beside xs [] none many = refl
 none_beside xs (y ∷ ys) none many = absurd (let e = ap length none in omega (arith, e, many))
 
+-- where no listener was opened, none has a place
 pub named_none : {N : Type 0} (places : List ℕ) (listeners : List N) (named : List (SourceListener N)) → listeners ≡ [] → length listeners ≡ length places → named ≡ []
     → WithPlaces places listeners named
 named_none {N} places listeners named none many empty = record {
@@ -26,6 +27,7 @@ named_none {N} places listeners named none many empty = record {
   listeners = ap (map (λ (l : SourceListener N). l.listener)) empty ∙ sym none;
 }
 
+-- one listener more, with the place of its source
 pub named_push : {N : Type 0} (places : List ℕ) (listeners : List N) (named : List (SourceListener N)) (place : ℕ) (one : N) → WithPlaces places listeners named
     → WithPlaces (places ++ place ∷ []) (listeners ++ one ∷ []) (named ++ record { source = place; listener = one } ∷ [])
 named_push {N} places listeners named place one w = record {
@@ -43,6 +45,7 @@ of_each {N} endpoint sources (l ∷ named) from listen =
     let places = map (λ (l : SourceListener N). l.source) named in
     (All-head (ListensAt sources) l.source places listen, from.0, of_each endpoint sources named from.1 (All-tail (ListensAt sources) l.source places listen))
 
+-- listeners with their places were handed out for their sources
 pub of_named : {N : Type 0} (endpoint : N → Option Endpoint) (sources : List SourcePlan) (places : List ℕ) (listeners : List N) (named : List (SourceListener N))
     → WithPlaces places listeners named → AreFrom endpoint sources places listeners → All (ListensAt sources) places → AreOfSources endpoint sources named
 of_named {N} endpoint sources places listeners named w from listen =
@@ -56,6 +59,7 @@ module _ {N : Type 0} (told : N → Option LinksTold) (waits faults : N → ℕ)
   ends_each sources [] = refl
   ends_each sources (l ∷ named) = ap (λ (ends : List Endpoint). end_at sources l.source ∷ ends) (ends_each sources named)
 
+  -- the endpoints of listeners with their places are out
   pub out_named : (sources : List SourcePlan) (places : List ℕ) (listeners : List N) (named : List (SourceListener N)) (all : Option HandedOut) → WithPlaces places listeners named
       → AreOut (map (end_at sources) places) all → AreOut (ends_of (come_back told waits faults sources named)) all
   out_named sources places listeners named all w out =
@@ -67,6 +71,7 @@ is_from : (host : List ℕ) (port : ℕ) (all : Option HandedOut) → IsFrom hos
 is_from host port None = tt
 is_from host port (Some all) = (refl, refl)
 
+-- what the host handed out is out
 pub is_out : (ends : List Endpoint) (f g : Option HandedOut) → Tells f g (AllOut ends) → AreOut ends g
 is_out ends f None out = tt
 is_out ends None (Some g) out = absurd out

@@ -69,6 +69,7 @@ wish_at uses plans wishes are place wish below =
     let at = are.each place (first_of_plans plans place below') wish below' in
     (at.0.users, at.1)
 
+-- no wish has too many users
 pub few_users : (uses : List ℕ) (plans : List ChannelPlan) (wishes at : List ChannelWish) → at ≡ wishes → AreWishes uses plans wishes → All (λ (wish : ChannelWish). wish.users < 4_294_967_295) at
 few_users uses plans wishes at same are =
     subst (λ (l : List ChannelWish). All (λ (wish : ChannelWish). wish.users < 4_294_967_295) l) (sym same)
@@ -96,6 +97,7 @@ uses_there {K} {C} count keepers sinks listeners lines kept named hear talk =
 
 -- ---- each worker of a listener has one
 
+-- as many listeners were opened as there are workers for them
 pub as_many : {N K C : Type 0} (places : List ℕ) (bare : List N) (named : List (SourceListener N)) (seats : List (Seat K C)) → WithPlaces places bare named
     → map (λ (seat : Seat K C). seat.draft.source) seats ≡ places → length bare ≡ length seats
 as_many {N} {K} {C} places bare named seats w sources =
@@ -107,6 +109,7 @@ as_many {N} {K} {C} places bare named seats w sources =
 
 -- ---- the workers can be made
 
+-- once all is opened as it was prepared, the workers can be made
 pub can_be_manned : {A B S N I O C K : Type 0} (plan : Plan) (rows : List SinkRow) (o : Opening A B S N I O C K) (named : List (SourceListener N))
     → SinksNameWhatIsThere → NumbersAreLimited → IsPlanned plan → AreThere (length plan.sinks.items) plan.groups.items → AreRows plan.sinks.items plan.groups.items rows
     → IsPrepared plan rows o.prepared → WereOpened o.prepared.wishes.items o.opened.items → length o.outside.sinks.items ≡ length rows
@@ -157,5 +160,6 @@ each_out old new same (wish ∷ wishes) out = (place_out old new same wish.place
 pub still_out : (old new : Folders) (wishes : List ChannelWish) → LeavesDisks old new → AreOut old wishes → AreOut new wishes
 still_out old new wishes leaves out = each_out old new (λ p. ap (λ (h : List ℕ → Bool). h p) leaves.opened) wishes out
 
+-- the channels were opened as wished, whatever the host showed
 pub were_opened : {A B : Type 0} (wishes at : List ChannelWish) (cs : List (OpenedChannel A B)) (a b : HostTold) → at ≡ wishes → AreOpened at cs a b → WereOpened wishes cs
 were_opened wishes at cs a b same opened = subst (λ (l : List ChannelWish). WereOpened l cs) same (a, b, opened)

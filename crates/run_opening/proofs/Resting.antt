@@ -79,6 +79,7 @@ module _ {A B S N I O C K : Type 0} (plans : List SinkRow) (o : Opening A B S N 
       ap length is.shares ∙ length-map o.opened.items (λ (c : OpenedChannel A B). c.share)
       ∙ fresh_many o.prepared.wishes.items o.opened.items (freshly o.prepared.wishes.items o.opened.items can.opened)
 
+  -- as many passes are at home as channels were wished for
   pub homes_many : length m.crew.homes.items ≡ length o.prepared.wishes.items
   homes_many = is.homes.as_many ∙ shares_many
 

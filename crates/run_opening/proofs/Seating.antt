@@ -20,6 +20,7 @@ seats_each {K} {C} count Is f (seat ∷ seats) all roomy =
     All-cons (IsSeat count) seat seats (f seat (All-head Is seat.draft drafts all) (All-head IsRoomy seat seats roomy))
     (seats_each count Is f seats (All-tail Is seat.draft drafts all) (All-tail IsRoomy seat seats roomy))
 
+-- drafts that are fit, with room for their passes, are all that the workers need
 pub are_seats : {K C : Type 0} (count : ℕ) (Is : SourceDraft K → Type 0) → ((seat : Seat K C) → Is seat.draft → IsRoomy seat → IsSeat count seat)
     → (drafts : List (SourceDraft K)) (seats : List (Seat K C)) → map (λ (seat : Seat K C). seat.draft) seats ≡ drafts → All Is drafts → All IsRoomy seats → All (IsSeat count) seats
 are_seats count Is f drafts seats are all roomy = seats_each count Is f seats (subst (λ (l : List (SourceDraft _)). All Is l) (sym are) all) roomy

@@ -40,6 +40,7 @@ dealt_left hands (at ∷ places) (pass ∷ passes) new is place =
     omega (arith, one, rest, sum)
 
 module _ {J : Type 0} (channels : J → List ℕ) (ports : J → List Known) where
+  -- how many passes of each channel are left once some were dealt
   pub each_left : (hands : List (List Known)) (jobs : List J) (new : List (List Known)) → DealsEach channels ports hands jobs new
       → (place : ℕ) → length (hand_at hands place) ≡ length (hand_at new place) + count_of place (flat_map channels jobs)
   each_left hands [] new is place = let e = ap (λ (h : List (List Known)). length (hand_at h place)) is in omega (arith, e)
@@ -60,6 +61,7 @@ deals_many hands (at ∷ places) (pass ∷ passes) new is = let rest = deals_man
 pub suffice_front : (hands : List (List Known)) (front back : List ℕ) → Suffice hands (front ++ back) → Suffice hands front
 suffice_front hands front back enough = λ place. let e = enough place in let sum = count_joined place front back in omega (arith, e, sum)
 
+-- where passes suffice for all, those left by the first suffice for the others
 pub suffice_back : (hands mid : List (List Known)) (front back : List ℕ) → Suffice hands (front ++ back)
     → ((place : ℕ) → length (hand_at hands place) ≡ length (hand_at mid place) + count_of place front) → Suffice mid back
 suffice_back hands mid front back enough left = λ place.
@@ -79,6 +81,7 @@ pub last_keep : {C : Type 0} (hands : List (List Known)) (seats front : List (Ke
 last_keep {C} hands seats front seat same enough =
     subst (Suffice hands) (ap (map (λ (s : KeepSeat C). s.channel)) same ∙ map-append (λ (s : KeepSeat C). s.channel) front (seat ∷ [])) enough
 
+-- the workers that keep channels use the channels of their plans
 pub keeps_places : {C : Type 0} (seats : List (KeepSeat C)) (jobs : List (KeepWorker Known C)) → Zips IsKeepOf seats jobs → flat_map keep_channels jobs ≡ map (λ (s : KeepSeat C). s.channel) seats
 keeps_places [] [] of = refl
 keeps_places [] (job ∷ jobs) of = absurd of
@@ -98,6 +101,7 @@ pub last_plan : (hands : List (List Known)) (plans front : List SinkRow) (plan :
 last_plan hands plans front plan same enough =
     subst (Suffice hands) (ap (map (λ (p : SinkRow). p.channel)) same ∙ map-append (λ (p : SinkRow). p.channel) front (plan ∷ [])) enough
 
+-- the workers of sinks use the channels of their plans
 pub sinks_places : {S C : Type 0} (plans : List SinkRow) (jobs : List (SinkWorker Known S C)) → Zips IsSinkOf plans jobs → flat_map sink_channels jobs ≡ map (λ (p : SinkRow). p.channel) plans
 sinks_places [] [] of = refl
 sinks_places [] (job ∷ jobs) of = absurd of
@@ -119,6 +123,7 @@ last_seat hands seats front seat same enough =
     (ap (flat_map seat_channels) same ∙ flat_map-append seat_channels front (seat ∷ []) ∙ ap (λ (l : List ℕ). flat_map seat_channels front ++ l) (flat_map_one seat_channels seat))
     enough
 
+-- the workers of listeners use the channels of their sources
 pub listen_places : {N K C : Type 0} (seats : List (Seat K C)) (jobs : List (ListenWorker Known N C K)) → Zips IsListenOf seats jobs → flat_map listen_channels jobs ≡ flat_map seat_channels seats
 listen_places [] [] of = refl
 listen_places [] (job ∷ jobs) of = absurd of
@@ -126,6 +131,7 @@ listen_places (seat ∷ seats) [] of = absurd of
 listen_places (seat ∷ seats) (job ∷ jobs) of =
     λ i. (ap (λ (v : Vec ℕ Global). v.items) of.0.channels) i ++ listen_places seats jobs of.1 i
 
+-- the workers of lines use the channels of their sources
 pub line_places : {I O K C : Type 0} (seats : List (Seat K C)) (jobs : List (LineWorker Known I O C K)) → Zips IsLineOf seats jobs → flat_map line_channels jobs ≡ flat_map seat_channels seats
 line_places [] [] of = refl
 line_places [] (job ∷ jobs) of = absurd of
@@ -140,6 +146,7 @@ listeners_left hands mid seats front seat jobs same enough of dealt =
     suffice_back hands mid (flat_map seat_channels front) (seat_channels seat) (last_seat hands seats front seat same enough)
     (λ place. each_left listen_channels listen_ports hands jobs mid dealt place ∙ ap (λ (l : List ℕ). length (hand_at mid place) + count_of place l) (listen_places front jobs of))
 
+-- the passes left by the other workers of lines suffice for the last one
 pub lines_left : {I O K C : Type 0} (hands mid : List (List Known)) (seats front : List (Seat K C)) (seat : Seat K C) (jobs : List (LineWorker Known I O C K)) → seats ≡ front ++ seat ∷ []
     → Suffice hands (flat_map seat_channels seats) → Zips IsLineOf front jobs → DealsEach line_channels line_ports hands jobs mid → Suffice mid (seat_channels seat)
 lines_left hands mid seats front seat jobs same enough of dealt =

@@ -29,6 +29,7 @@ turn_chain Step Same self then each (a ∷ xs) old new is =
 taken_then : (f g h : HostState) → IsButTaken f g → IsButTaken g h → IsButTaken f h
 taken_then f g h first second = second ∙ ap (λ (s : HostState). record s { input = h.input; output = h.output; handed = h.handed }) first
 
+-- what changes only streams and faults, and does so again, changes only these
 pub kept_then : (f g h : HostState) → IsButKept f g → IsButKept g h → IsButKept f h
 kept_then f g h first second = second ∙ ap (λ (s : HostState). record s { input = h.input; output = h.output; handed = h.handed; faults = h.faults }) first
 
@@ -42,6 +43,7 @@ module _ {I : Type 0} (left : I → Option (List ℕ)) (read_faults : I → ℕ)
         faults = g.faults;
       })
 
+  -- inputs that come back one after the other change only streams and faults
   pub drains_rest : (drains : List (DrainWorker I)) (f g : HostState) → InTurn (DrainKept left read_faults) drains f g → IsButKept f g
   drains_rest = turn_chain (DrainKept left read_faults) IsButKept (λ s. refl) kept_then drain_rest
 
@@ -54,6 +56,7 @@ module _ {I : Type 0} (left : I → Option (List ℕ)) (read_faults : I → ℕ)
           handed = sym (ap (λ (s : HostState). s.handed) is.state) i;
         })
 
+    -- sessions on streams that are handed out one after the other change only the streams
     pub all_taken_rest : (talks : List (LineEnded I O)) (f g : HostState) → InTurn (TalkTaken left read_faults took handed write_faults) talks f g → IsButTaken f g
     all_taken_rest = turn_chain (TalkTaken left read_faults took handed write_faults) IsButTaken (λ s. refl) taken_then taken_rest
 
@@ -66,5 +69,6 @@ module _ {I : Type 0} (left : I → Option (List ℕ)) (read_faults : I → ℕ)
           faults = g.faults;
         })
 
+    -- sessions on streams that come back one after the other change only streams and faults
     pub talks_rest : (talks : List (LineEnded I O)) (f g : HostState) → InTurn (TalkKept left read_faults took handed write_faults) talks f g → IsButKept f g
     talks_rest = turn_chain (TalkKept left read_faults took handed write_faults) IsButKept (λ s. refl) kept_then talk_rest

@@ -65,6 +65,7 @@ none_unused : (all : Option HandedOut) → Tells all all (CameUnused [])
 none_unused None = tt
 none_unused (Some all) = record { out = λ host port. refl; back = sym (append-nil all.back) }
 
+-- where a sink was refused, what was opened for those before it came back
 pub sinks_refused : (plan : Plan) (places : List ℕ) (refused : NameRefused) (a b : HostTold) → SinksRefused plan.sinks.items refused a.folders b.folders a.state b.state → OutsideRefused plan places refused a b
 sinks_refused plan places refused a b back =
     let same : b.state.listeners ≡ a.state.listeners = ap (λ (s : HostState). s.listeners) back.dials.state in
@@ -84,6 +85,7 @@ listener_fails : (refused : NameRefused) (before now : ℕ) → FaultsBy {T = Un
 listener_fails Failed before now fails = fails
 listener_fails NoMemory before now fails = omega (arith, fails)
 
+-- where a listener was refused, the sinks and the listeners before it came back
 pub listeners_refused : {R A B : Type 0} (rolled : R → Option Rolled) (faults : R → ℕ) (dial : DialTold A) (plan : Plan) (places : List ℕ) (refused : NameRefused) (a m n b : HostTold) (sinks : List (AgentSink R A B))
     → SinksOpened rolled faults plan.sinks.items a.folders m.folders sinks → DialsOpened dial plan.sinks.items a.state m.state sinks
     → (opened : ℕ) × ListensRefused refused (map (end_at plan.sources.items) (take opened places)) m.state n.state → n.folders ≡ m.folders

@@ -39,9 +39,11 @@ goes_then p q r f g = record {
   begins = prefix_then p.view.seen q.view.seen r.view.seen f.begins g.begins;
 }
 
+-- passes at home go on to themselves
 pub each_goes_self : (homes : List Known) → EachGoesOn homes homes
 each_goes_self homes = record { as_many = refl; each = λ place d below. goes_self (get_or homes place d) }
 
+-- passes at home that go on, and then go on again
 pub each_goes_then : (a b c : List Known) → EachGoesOn a b → EachGoesOn b c → EachGoesOn a c
 each_goes_then a b c f g = record {
   as_many = g.as_many ∙ f.as_many;
@@ -59,6 +61,7 @@ module _ (old new : List Known) (on : EachGoesOn old new) where
   was_below : (place : ℕ) → place < length new → place < length old
   was_below place below = let e = on.as_many in omega (arith, below, e)
 
+  -- passes at home that go on are still those of the channels
   pub homes_go_on : {Z : Type 0} (table : Z → TableId) (shares : List Z) → AreHomes table shares old → AreHomes table shares new
   homes_go_on table shares are = record {
     as_many = on.as_many ∙ are.as_many;
@@ -68,18 +71,21 @@ module _ (old new : List Known) (on : EachGoesOn old new) where
         record { below = at.below; here = λ s. (on.each place d low).table ∙ at.here s };
   }
 
+  -- each that goes on still has all numbers
   pub all_go_on : All (λ (p : Known). HasAll p.view) old → All (λ (p : Known). HasAll p.view) new
   all_go_on all = λ place d below.
       let low = was_below place below in
       let one = on.each place d low in
       λ n lt. subst (λ (l : List ℕ). has l n ≡ true) (sym one.numbers) (all place d low n (subst (λ (k : ℕ). n < k) one.passes lt))
 
+  -- the next call of each still carries a number of its own
   pub own_go_on : All HasOwn old → All HasOwn new
   own_go_on all = λ place d below.
       let low = was_below place below in
       let one = on.each place d low in
       subst (λ (x : List ℕ × ℕ). has x.0 x.1 ≡ true) (λ i. (sym one.numbers i, sym one.number i)) (all place d low)
 
+  -- a sink whose channel has a pass at home has it still
   pub sink_goes_on : {S C : Type 0} (w : SinkWorker AtHome S C) → IsSinkHome old w → IsSinkHome new w
   sink_goes_on w is = (
     let e = on.as_many in let l = is.0 in omega (arith, e, l),
@@ -114,6 +120,7 @@ module _ {S C : Type 0} (sink : Told S) (moments : C → Option (ℕ → ℕ)) (
         (λ other. subst (λ (q : Known). GoesOn (get_or old place d) q) (sym (did.others place d ((λ e. other (sym e)), tt))) (goes_self (get_or old place d)));
   }
 
+  -- a sink that drained its channel changed only the pass at that place
   pub drained_set : (homes : List Known) (end : ChannelDrain) (back : S) (q : Known) → w.channel < length homes → ((d : Known) → IsDrainedHome sink moments w (get_or homes w.channel d) end back q) → IsDrainedAt sink moments w homes end back (set homes w.channel q)
   drained_set homes end back q below did = record {
     as_many = length-set homes w.channel q;

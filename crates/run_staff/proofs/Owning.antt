@@ -15,5 +15,6 @@ own_new table start passes zero = tt
 own_new table start passes (suc k) =
     own_push (new_passes table start passes k) (new_pass table start passes k) (own_new table start passes k) (ap (λ (b : Bool). b || false) (eq-eqb k k refl))
 
+-- the first of a channel's new passes carries a number of its own
 pub first_own : FirstHasOwn
 first_own table start passes home hand is = (subst (AllByRecursion HasOwn) is (own_new table start passes passes)).0

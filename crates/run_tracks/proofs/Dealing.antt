@@ -43,6 +43,7 @@ owned_more owners o place n (i, below, is) = (i, omega (arith, below, length-app
 owned_last : (owners : List Owner) (place n : ℕ) → IsOwned (owners ++ record { place = place; number = n } ∷ []) place n
 owned_last owners place n = (length owners, omega (arith, length-append owners (record { place = place; number = n } ∷ [])), λ d. get_or_push owners (record { place = place; number = n }) d (length owners) refl)
 
+-- once no pass is left to be dealt, each number is at home or with a worker
 pub ends : DealingEnds
 ends homes hands owners none but = λ place d below n lt. one place n (but place d below n lt)
   where
@@ -64,6 +65,7 @@ all_first table start passes zero = tt
 all_first table start passes (suc k) =
     all_push (IsFirst passes) (new_passes table start passes k) (new_pass table start passes k) (all_first table start passes k) (refl, ap (λ (b : Bool). b || false) (eq-eqb k k refl))
 
+-- of a channel's new passes one stays at home, and the others are to be dealt
 pub begins : DealingBegins
 begins table start passes home hand owners place is = λ n lt.
     let first : AllByRecursion (IsFirst passes) (home ∷ hand) = subst (AllByRecursion (IsFirst passes)) is (all_first table start passes passes) in
@@ -74,6 +76,7 @@ begins table start passes home hand owners place is = λ n lt.
     one n at (inl same) = inl (subst (λ (m : ℕ). has home.view.numbers m ≡ true) same at)
     one n at (inr h) = inr (inr h)
 
+-- a further channel's passes are still to be dealt, beside those before it
 pub goes_on : DealingGoesOn
 goes_on homes hands owners home hand many but with = λ place d below.
     dite (ℕ_discrete place (length homes))
@@ -88,6 +91,7 @@ goes_on homes hands owners home hand many but with = λ place d below.
     let in_hand : get_or (hands ++ hand ∷ []) place [] ≡ get_or hands place [] = get_or_append_left hands (hand ∷ []) [] place low' in
     subst (λ (x : Known × List Known). IsWith x.0 owners place x.1) (λ i. (sym here i, sym in_hand i)) (but place d low))
 
+-- a pass that is dealt leaves the hand for a worker
 pub one_dealt : DealsOne
 one_dealt homes hands owners place hand pass in_hands is but = λ i d below.
     dite (ℕ_discrete i place)

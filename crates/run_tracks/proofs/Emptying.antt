@@ -160,6 +160,7 @@ module _ {F : Type 0} (pass : F → Known) (saw : F → List Own → State → T
     ended Emptied a b t m look = looked a b 0 t m look
     ended (Stopped turn) a b t m (undelivered, run) = let got = ran_on_events a b turn t m run in (got.0, (undelivered, got.1))
 
+  -- a draining through a port is in each track at which its pass then is
   pub drain_in_track : {S : Type 0} (sink : Told S) → DrainIsInTrack pass saw kept sink
   drain_in_track sink batch end old new did t m =
       let last = ended sink batch end did.between new t m did.ends in
@@ -167,6 +168,7 @@ module _ {F : Type 0} (pass : F → Known) (saw : F → List Own → State → T
       let first = delivered sink batch did.counts old did.between u last.0 did.deliveries in
       (first.0, record { counts = did.counts; between = on sink batch u did.between; deliveries = first.1; ends = last.1 })
 
+  -- a draining that found its channel empty leaves no event in what its pass has seen
   pub emptied_none : {S : Type 0} (sink : Told S) → EmptiedLeavesNone pass saw kept sink
   emptied_none sink batch old new did =
       let own = owned (pass did.between.from).view in
@@ -194,5 +196,6 @@ module _ {F : Type 0} (pass : F → Known) (saw : F → List Own → State → T
   ended_later sink batch Emptied a b look = looked_later a b 0 look
   ended_later sink batch (Stopped turn) a b (undelivered, run) = ran_later sink batch a b turn run
 
+  -- a draining leaves the port's pass the same pass, later
   pub drain_later : {S : Type 0} (sink : Told S) (batch : ℕ) (end : ChannelDrain) (old new : Taking F S) → FaceDrains pass saw kept sink batch end old new → Later (pass old.from) (pass new.from)
   drain_later sink batch end old new did = later_then (pass old.from) (pass did.between.from) (pass new.from) (delivered_later sink batch did.counts old did.between did.deliveries) (ended_later sink batch end did.between new did.ends)

@@ -172,6 +172,7 @@ none_left : (s : State) → free s ≡ [] → IsNoneHeld s → s.items ≡ []
 none_left s none held = sym (without_none s.items) ∙ ap (λ (l : List ℕ). without l s.items) (sym held) ∙ none
 
 module _ {F : Type 0} (pass : F → Known) (saw : F → List Own → State → Type 0) (kept : F → F → Type 0) (face : IsFace pass saw kept) where
+  -- where a run through a pass with each number found no event, each that was left was held
   pub empty_found_none : {S : Type 0} (sink : Told S) → EmptyFoundNone pass saw kept sink
   empty_found_none sink batch old new tells whole some all begins once =
       let p = pass old.from in

@@ -33,6 +33,7 @@ is_there hands place some =
     dite (dec_lt place (length hands)) (λ is. is)
     (λ beyond. let none : hand_at hands place ≡ [] = get_or_past hands place [] (omega (arith, beyond)) in absurd (omega (arith, some, ap length none)))
 
+-- where the passes suffice, the first place is one of a channel
 pub first_there : (hands : List (Vec Known Global)) (first : ℕ) (rest : List ℕ) → Suffice (hands_of hands) (first ∷ rest) → first < length hands
 first_there hands first rest enough =
     let there = is_there (hands_of hands) first (first_some (hands_of hands) first rest enough) in

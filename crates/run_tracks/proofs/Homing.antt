@@ -14,12 +14,15 @@ use Rattle.shared_channel.specs.Passes.{Known}
 use Rattle.run_tracks.specs.Homes.{Took, AreHomes, TookAt, EachTook, StayElsewhere}
 use Rattle.run_tracks.specs.Places.{Zips, TookEach}
 
+-- a first part of a first part is one of the whole
 pub prefix_then : (a b c : List Step) → IsPrefix a b → IsPrefix b c → IsPrefix a c
 prefix_then a b c p q = (p.0 ++ q.0, sym (append_assoc a p.0 q.0) ∙ ap (λ (l : List Step). l ++ q.0) p.1 ∙ q.1)
 
+-- a pass has taken itself in
 pub took_self : (p : Known) → Took p p
 took_self p = record { table = refl; base = refl; passes = refl; seen = (begins_self p.view.seen, refl); numbers = λ n h. h }
 
+-- who took in a pass that took in another took that in too
 pub took_then : (p q r : Known) → Took p q → Took q r → Took p r
 took_then p q r f g = record {
   table = f.table ∙ g.table;
@@ -39,6 +42,7 @@ joined_old p q n table is seen = record {
   numbers = λ m h. subst (λ (v : View). has v.numbers m ≡ true) (sym is) (has_left p.view.numbers q.view.numbers m h);
 }
 
+-- a join takes in the pass that came from elsewhere
 pub joined_from : (p q n : Known) → n.table_id ≡ p.table_id → p.table_id ≡ q.table_id → n.view ≡ joined (both p.view q.view) → Has n.view.seen (part q.view) → q.view.base ≡ p.view.base → q.view.passes ≡ p.view.passes → Took n q
 joined_from p q n table same is seen base passes = record {
   table = table ∙ same;
@@ -60,9 +64,11 @@ set_took homes place n below t number = record {
       (λ other. ap (λ (p : Known). p.number) (get_or-set_other homes place i n d (λ e. other (sym e))));
 }
 
+-- where one pass at home is set, those at all other places stay
 pub set_elsewhere : (homes : List Known) (place : ℕ) (n : Known) → StayElsewhere (place ∷ []) homes (set homes place n)
 set_elsewhere homes place n i d apart = get_or-set_other homes place i n d apart.0
 
+-- where the pass at home that took one in is set, its place took that in
 pub set_took_at : (homes : List Known) (place : ℕ) (n q : Known) → place < length homes → Took n q → TookAt (set homes place n) place q
 set_took_at homes place n q below t = (omega (arith, length-set homes place n), λ d. subst (λ (p : Known). Took p q) (sym (get_or-set_same homes place n d below)) t)
 
@@ -76,9 +82,11 @@ homes_kept table shares old new are took = record {
       record { below = at.below; here = λ s. (took.each place d low).table ∙ at.here s };
 }
 
+-- passes at home that stayed as they were each took in themselves
 pub each_took_self : (homes : List Known) → EachTook homes homes
 each_took_self homes = record { as_many = refl; each = λ place d below. took_self (get_or homes place d); number = λ place d below. refl }
 
+-- passes at home that went on twice took in what was there at first
 pub each_took_then : (a b c : List Known) → EachTook a b → EachTook b c → EachTook a c
 each_took_then a b c f g = record {
   as_many = g.as_many ∙ f.as_many;
@@ -86,17 +94,21 @@ each_took_then a b c f g = record {
   number = λ place d below. g.number place d (let e = f.as_many in omega arith) ∙ f.number place d below;
 }
 
+-- a pass that was taken in at a place stays taken in as homes go on
 pub took_at_later : (a b : List Known) (place : ℕ) (q : Known) → EachTook a b → TookAt a place q → TookAt b place q
 took_at_later a b place q f t = (let e = f.as_many in let l = t.0 in omega arith, λ d. took_then (get_or b place d) (get_or a place d) q (f.each place d t.0) (t.1 d))
 
+-- a list of one number has it
 pub has_one : (n : ℕ) → has (n ∷ []) n ≡ true
 has_one n = search rules
 
+-- who took in a worker's pass has the worker's number
 pub has_numbers : (home q : Known) (n : ℕ) → Took home q → q.view.numbers ≡ n ∷ [] → has home.view.numbers n ≡ true
 has_numbers home q n t e = t.numbers n (subst (λ (l : List ℕ). has l n ≡ true) (sym e) (has_one n))
 
 -- pairs of lists
 
+-- of lists that stand beside each other, those before the last do, and the last two
 pub zips-append : {A B : Type 0} (R : A → B → Type 0) (xs : List A) (ys : List B) (a : A) (b : B) → Zips R (xs ++ a ∷ []) (ys ++ b ∷ []) → Zips R xs ys × R a b
 zips-append R [] [] a b z = (tt, z.0)
 zips-append R [] (y ∷ []) a b z = absurd z.1
@@ -105,18 +117,21 @@ zips-append R (x ∷ []) [] a b z = absurd z.1
 zips-append R (x ∷ (w ∷ xs)) [] a b z = absurd z.1
 zips-append R (x ∷ xs) (y ∷ ys) a b z = let r = zips-append R xs ys a b z.1 in ((z.0, r.0), r.1)
 
+-- lists that stand beside each other are of one length
 pub zips_length : {A B : Type 0} (R : A → B → Type 0) (xs : List A) (ys : List B) → Zips R xs ys → length xs ≡ length ys
 zips_length R [] [] z = refl
 zips_length R [] (b ∷ ys) z = absurd z
 zips_length R (a ∷ xs) [] z = absurd z
 zips_length R (a ∷ xs) (b ∷ ys) z = ap (λ (n : ℕ). suc n) (zips_length R xs ys z.1)
 
+-- the ports' passes stay taken in as homes go on
 pub took_each_later : {F : Type 0} (pass : F → Known) (a b : List Known) (cs : List ℕ) (ps : List F) → EachTook a b → TookEach a pass cs ps → TookEach b pass cs ps
 took_each_later pass a b [] [] f z = tt
 took_each_later pass a b [] (p ∷ ps) f z = absurd z
 took_each_later pass a b (c ∷ cs) [] f z = absurd z
 took_each_later pass a b (c ∷ cs) (p ∷ ps) f z = (took_at_later a b c (pass p) f z.0, took_each_later pass a b cs ps f z.1)
 
+-- lists that stand beside each other, and one thing more of each
 pub zips_push : {A B : Type 0} (R : A → B → Type 0) (xs : List A) (ys : List B) (a : A) (b : B) → Zips R xs ys → R a b → Zips R (xs ++ a ∷ []) (ys ++ b ∷ [])
 zips_push R [] [] a b z r = (r, tt)
 zips_push R [] (y ∷ ys) a b z r = absurd z

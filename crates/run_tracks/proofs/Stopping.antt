@@ -22,6 +22,7 @@ pub record UpTo {S X : Type 0} (Became : S → Known → X → X → Known → T
   pub unnoted : (place : ℕ) (b : X) → n ≤ place → get_or after place b ≡ get_or before place b
 
 module _ {S X : Type 0} (Became : S → Known → X → X → Known → Type 0) where
+  -- before the first channel nothing became of any
   pub up_to_none : (shares : List S) (old : List Known) (before : List X) → UpTo Became 0 shares old before before old
   up_to_none shares old before = record { as_many = refl; noted = refl; each = λ place s p q b c low. absurd (omega (arith, low)); same = λ place p low. refl; unnoted = λ place b low. refl }
 

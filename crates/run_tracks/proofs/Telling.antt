@@ -17,9 +17,11 @@ use Rattle.run_tracks.specs.Tracks.{Mended, Turned, ended, track_of}
 use Rattle.run_tracks.proofs.Tracking.{accepts, matches_home, rounds, rounds_later}
 
 module _ {F : Type 0} (pass : F → Known) (saw : F → List Own → State → Type 0) (kept : F → F → Type 0) (face : IsFace pass saw kept) where
+  -- rounds that a sink made through a port are in each track at which its pass is
   pub rounds_in_track : (on_disk : F → Type 0) → IsSteady kept on_disk → {S : Type 0} (sink : Told S) → RoundsAreInTrack pass saw kept on_disk sink
   rounds_in_track on_disk steady sink batch turns old new t m ran = rounds pass saw kept face sink batch on_disk steady (on_disk old.from) turns old new t m (λ x. x, λ x. x) ran
 
+  -- rounds through a new pass are all calls with its number, once it is at home
   pub rounds_home : (on_disk : F → Type 0) → IsSteady kept on_disk → {S : Type 0} (sink : Told S) → RoundsAreHome pass saw kept on_disk sink
   rounds_home on_disk steady sink batch turns old new home fresh took ran =
       let n = (pass old.from).number in
@@ -30,6 +32,7 @@ module _ {F : Type 0} (pass : F → Known) (saw : F → List Own → State → T
       let got = rounds_in_track on_disk steady sink batch turns old new t m ran in
       subst (λ (l : List Own). Rounds (Turned sink batch) (Mended D) turns (record { from = record t { own = l }; sink = old.sink; moments = old.moments }) (record { from = t; sink = new.sink; moments = new.moments })) fresh.1 got.1
 
+  -- a batch that a source put through its ports is in their tracks
   pub batch_in_tracks : {B : Type 0} (Means : Meaning B) → BatchIsInTracks pass saw kept Means
   batch_in_tracks Means selector host moment old new batch verdict after m accepted =
       let before = accepts pass saw kept face Means selector host moment old new batch verdict after m accepted in
@@ -51,9 +54,11 @@ either_laters (Disk p) (Memory q) l = absurd l
 either_laters (Memory p) (Disk q) l = absurd l
 either_laters (Memory p) (Memory q) l = l
 
+-- a port of either kind tells what its pass saw
 pub either_face : {R A B : Type 0} (disk : A → Opening → List Step → Type 0) (memory : B → Opening → List Step → Type 0) → IsFace {F = EitherPort R A B} pass_of (SawIn disk memory) LaterPort
 either_face disk memory = record { saws = either_saws disk memory; laters = either_laters }
 
+-- a port of either kind stays on a disk, or stays off it
 pub either_steady : {R A B : Type 0} → IsSteady {F = EitherPort R A B} LaterPort IsOnDisk
 either_steady (Disk p) (Disk q) l = (λ x. x, λ x. x)
 either_steady (Disk p) (Memory q) l = absurd l

@@ -62,10 +62,12 @@ back p t = record t { own = owned p.view }
 pub matches_back : (p q : Known) (t : Track) → Later p q → Matches q t → Matches p (back p t)
 matches_back p q t later m = record { numbers = sym later.numbers ∙ m.numbers; start = sym later.base ∙ m.start; own = refl; within = prefix_then p.view.seen q.view.seen t.whole later.begins m.within }
 
+-- tracks are behind themselves
 pub behind_self : (ts : List Track) → Zips IsBehind ts ts
 behind_self [] = tt
 behind_self (t ∷ ts) = (refl, behind_self ts)
 
+-- tracks behind tracks that are behind others are behind those
 pub behind_then : (us ts ws : List Track) → Zips IsBehind us ts → Zips IsBehind ts ws → Zips IsBehind us ws
 behind_then [] [] ws f g = g
 behind_then [] (t ∷ ts) ws f g = absurd f

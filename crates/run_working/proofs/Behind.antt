@@ -74,6 +74,7 @@ module _ {R A B : Type 0} (disk : A → Opening → List Step → Type 0) (memor
     abbrev pub KeepRuns : {C : Type 0} → KeepWorker (EitherPort R A B) C → KeepWorker (EitherPort R A B) C → Type 0
     KeepRuns old new = KeepRan as_keeper old new
 
+    -- the worker that keeps a channel has a port of the same channel and numbers after its run
     pub keep_same : {C : Type 0} (shares : List (EitherShared A B)) (job : KeepWorker Known C) (v w : KeepWorker (EitherPort R A B) C) → IsKeepOpened shares job v → KeepRuns v w
         → IsSameWorker pass_of keep_places keep_ports keep_places keep_ports job w
     keep_same shares job v w opened ran = record {
@@ -90,6 +91,7 @@ module _ {R A B : Type 0} (disk : A → Opening → List Step → Type 0) (memor
     abbrev pub SinkRuns : SinkWorker (EitherPort R A B) S C → SinkWorker (EitherPort R A B) S C → Type 0
     SinkRuns old new = SinkRan (TurnsOnce (as_face pass_of Saws LaterPort) (told delivers faults) old.batch) (MendsOnce (as_face pass_of Saws LaterPort) IsOnDisk) moments old new
 
+    -- a sink's worker has a port of the same channel and numbers after its run
     pub sink_same : (shares : List (EitherShared A B)) (job : SinkWorker Known S C) (v w : SinkWorker (EitherPort R A B) S C) → IsSinkOpened shares job v → SinkRuns v w
         → IsSameWorker pass_of sink_places sink_ports sink_places sink_ports job w
     sink_same shares job v w opened ran = record {
@@ -107,6 +109,7 @@ module _ {R A B : Type 0} (disk : A → Opening → List Step → Type 0) (memor
         ListenRan (Session old.rules (PortPuts pass_of Saws LaterPort) old.selector Means old.host)
         (MendsInto (PortMends pass_of Saws LaterPort IsOnDisk)) moments heard stands old new
 
+    -- a listener's worker has ports of the same channels and numbers after its run
     pub listen_same : (shares : List (EitherShared A B)) (job : ListenWorker Known N C K) (v w : ListenWorker (EitherPort R A B) N C K) → IsListenOpened shares job v → ListenRuns v w
         → IsSameWorker pass_of listen_places listen_ports listen_places listen_ports job w
     listen_same shares job v w opened ran = record {
@@ -123,6 +126,7 @@ module _ {R A B : Type 0} (disk : A → Opening → List Step → Type 0) (memor
         LineRan (TakesTurn (TakesLine (PortPuts pass_of Saws LaterPort) old.selector Means old.host) (MendsInto (PortMends pass_of Saws LaterPort IsOnDisk)))
         moments talk old new
 
+    -- a worker of lines has ports of the same channels and numbers after its run
     pub line_same : (shares : List (EitherShared A B)) (job : LineWorker Known I O C K) (v w : LineWorker (EitherPort R A B) I O C K) → IsLineOpened shares job v → LineRuns v w
         → IsSameWorker pass_of line_places line_ports line_places line_ports job w
     line_same shares job v w opened ran = record {
@@ -156,6 +160,7 @@ module _ {R A B : Type 0} (disk : A → Opening → List Step → Type 0) (memor
 all_same : (passes : List Known) → Zips (λ p q. Same p q) passes passes
 all_same passes = zips_self (λ (p q : Known). Same p q) same_self passes
 
+-- each of their passes is the one that it was
 pub same_idle : {S N I O C K : Type 0} (jobs : Workers Known S N I O C K) → AreSameWorkers (λ (p : Known). p) jobs jobs
 same_idle {S} {N} {I} {O} {C} {K} jobs = record {
   keepers = zips_self (IsSameWorker (λ (p : Known). p) keep_places keep_ports keep_places keep_ports) (λ (k : KeepWorker Known C). record { channels' = refl; ports' = all_same (k.port ∷ []) }) jobs.keepers.items;

@@ -118,11 +118,13 @@ module _ {A B S C : Type 0} (sink : Told S) (moments : C → Option (ℕ → ℕ
   closed_on : EachGoesOn is.counted finals
   closed_on = record { as_many = left.as_many; each = λ place d below. (left.each place d below).0 }
 
+  -- the passes at home go on from after the drainings until the channels are closed
   pub behind_on : EachGoesOn is.drained finals
   behind_on =
       each_goes_then is.drained is.kept finals kept_on
       (each_goes_then is.kept is.mended finals mended_on (each_goes_then is.mended is.counted finals counted_on closed_on))
 
+  -- the passes at home go on from the join of the workers until the channels are closed
   pub all_on : EachGoesOn homes finals
   all_on = each_goes_then homes is.drained finals is.goes_on behind_on
 

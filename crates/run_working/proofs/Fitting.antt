@@ -32,6 +32,7 @@ module _ {R A B : Type 0} (shares : List (EitherShared A B)) where
       first [] at lt = absurd (omega (arith, lt))
       first (share ∷ l) at lt = share
 
+  -- a listener's worker that could run can run with its ports
   pub listen_fits : {N C K : Type 0} (job : ListenWorker Known N C K) (v : ListenWorker (EitherPort R A B) N C K) → CanListen job → IsListenOpened shares job v → CanListen v
   listen_fits job v can opened =
       let many = zips_length (λ (p : Known) (port : EitherPort R A B). pass_of port ≡ p) job.ports.items v.ports.items opened.passes in
@@ -41,6 +42,7 @@ module _ {R A B : Type 0} (shares : List (EitherShared A B)) where
         named = subst (λ (x : Selector × ℕ). NamesBelow x.0 x.1) (λ i. (sym opened.selector i, many i)) can.named;
       }
 
+  -- a worker of lines that could serve can serve with its ports
   pub line_fits : {I O C K : Type 0} (job : LineWorker Known I O C K) (v : LineWorker (EitherPort R A B) I O C K) → CanServe job → IsLineOpened shares job v → CanServe v
   line_fits {I} {O} {C} {K} job v can opened =
       let many = zips_length (λ (p : Known) (port : EitherPort R A B). pass_of port ≡ p) job.ports.items v.ports.items opened.passes in

@@ -53,6 +53,7 @@ module _ {F : Type 0} (pass : F → Known) {S N I O C K : Type 0} where
     pub listeners : Zips (IsSameWorker pass listen_places listen_ports listen_places listen_ports) jobs.listeners.items new.listeners.items
     pub lines : Zips (IsSameWorker pass line_places line_ports line_places line_ports) jobs.lines.items new.lines.items
 
+  -- the ports after a run are of the channels that the passes were of
   pub workers_at : {Z : Type 0} (table : Z → TableId) (shares : List Z) (jobs : Workers Known S N I O C K) (new : Workers F S N I O C K)
       → AreWorkers table shares (λ (p : Known). p) jobs → AreSameWorkers jobs new → AreWorkers table shares pass new
   workers_at table shares jobs new at same = record {
@@ -66,6 +67,7 @@ module _ {F : Type 0} (pass : F → Known) {S N I O C K : Type 0} where
     lines = kind_at pass line_places line_ports line_places line_ports table shares jobs.lines.items new.lines.items same.lines at.lines;
   }
 
+  -- after a run the number of each worker's new passes is at home
   pub numbers_home : (homes : List Known) (jobs : Workers Known S N I O C K) (new : Workers F S N I O C K) (returned : Returned S N I O C)
       → AreNew jobs → AreSameWorkers jobs new → AreEnded pass homes new returned → All (λ o. HasNumber homes o.place o.number) (owners_of jobs)
   numbers_home homes jobs new returned fresh same ended =

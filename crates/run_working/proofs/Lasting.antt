@@ -33,6 +33,7 @@ module _ {F : Type 0} (pass : F → Known) (homes last : List Known) (on : EachG
     λ d. took_silent (get_or homes place d) (get_or last place d) q p.number (same.numbers ∙ new.0) (on.each place d took.0) (silent d) (took.1 d),
   )
 
+  -- what was taken in at home is taken in later, if no call with its number was made between
   pub took_each_silent : (places : List ℕ) (passes : List Known) (ports : List F) → Zips (λ p port. Same p (pass port)) passes ports → All IsNew passes → AreSilentAt homes last places passes
       → TookEach homes pass places ports → TookEach last pass places ports
   took_each_silent [] passes [] same new silent took = tt
@@ -44,12 +45,14 @@ module _ {F : Type 0} (pass : F → Known) (homes last : List Known) (on : EachG
     took_each_silent places passes ports same.1 (All-tail IsNew p passes new) silent.1 took.1,
   )
 
+-- what holds of each by two claims holds of each by both
 pub all_both : {A : Type 0} (P Q : A → Type 0) (xs : List A) → All P xs → All Q xs → All (λ a. P a × Q a) xs
 all_both P Q [] p q = All-nil (λ a. P a × Q a)
 all_both P Q (x ∷ xs) p q = All-cons (λ a. P a × Q a) x xs (All-head P x xs p, All-head Q x xs q) (all_both P Q xs (All-tail P x xs p) (All-tail Q x xs q))
 
 module _ {R A B : Type 0} (disk : A → Opening → List Step → Type 0) (memory : B → Opening → List Step → Type 0)
     {N C K : Type 0} (Means : Meaning K) (moments : C → Option (ℕ → ℕ)) (heard : N → Heard) (stands : N → Option Endpoint) where
+  -- a listener's worker is told of in what the passes at home have seen later
   pub listen_stays : (shares : List (EitherShared A B)) (homes last : List Known) → EachGoesOn homes last → (job : ListenWorker Known N C K) (v w : ListenWorker (EitherPort R A B) N C K) (listener : N)
       → All IsNew job.ports.items → AreSilentAt homes last job.channels.items job.ports.items → IsListenOpened shares job v → ListenRuns disk memory Means moments heard stands v w
       → IsListenEnded pass_of homes w listener → IsListenTold Means moments heard shares last job listener
@@ -62,6 +65,7 @@ module _ {R A B : Type 0} (disk : A → Opening → List Step → Type 0) (memor
 
 module _ {R A B : Type 0} (disk : A → Opening → List Step → Type 0) (memory : B → Opening → List Step → Type 0)
     {I O C K : Type 0} (Means : Meaning K) (moments : C → Option (ℕ → ℕ)) (talk : I → O → Talk) where
+  -- a worker of lines is told of in what the passes at home have seen later
   pub line_stays : (shares : List (EitherShared A B)) (homes last : List Known) → EachGoesOn homes last → (job : LineWorker Known I O C K) (v w : LineWorker (EitherPort R A B) I O C K) (back : LineEnded I O)
       → All IsNew job.ports.items → AreSilentAt homes last job.channels.items job.ports.items → IsLineOpened shares job v → LineRuns disk memory Means moments talk v w
       → IsLineEnded pass_of homes w back → IsLineTold Means moments talk shares last job back

@@ -30,6 +30,7 @@ more_across : (o : Owner) (os ps : List Owner) → AllByRecursion (Differ o) ps 
 more_across o os [] one all = tt
 more_across o os (p ∷ ps) one all = ((one.0, all.0), more_across o os ps one.1 all.1)
 
+-- where no two of all numbers are the same, those of two kinds are apart
 pub differ_split : (os ps : List Owner) → AllDiffer (os ++ ps) → AreApart os ps
 differ_split [] ps all = record { firsts = tt; seconds = all; across = none_across ps }
 differ_split (o ∷ os) ps all =
@@ -58,6 +59,7 @@ one_across o os (p ∷ ps) all =
     let rest = one_across o os ps all.1 in
     ((λ place number. all.0.0 (sym place) (sym number), rest.0), (all.0.1, rest.1))
 
+-- so those of the second kind differ from those of the first
 pub swap_across : (os ps : List Owner) → AllByRecursion (λ (p : Owner). AllByRecursion (λ (o : Owner). Differ o p) os) ps → AllByRecursion (λ (o : Owner). AllByRecursion (λ (p : Owner). Differ p o) ps) os
 swap_across [] ps all = tt
 swap_across (o ∷ os) ps all = let both = one_across o os ps all in (both.0, swap_across os ps both.1)
@@ -66,6 +68,7 @@ swap_across (o ∷ os) ps all = let both = one_across o os ps all in (both.0, sw
 abbrev pub keep_owners : {C : Type 0} → List (KeepWorker Known C) → List Owner
 keep_owners {C} jobs = flat_map (λ (k : KeepWorker Known C). owners_at (k.channel ∷ []) (k.port ∷ [])) jobs
 
+-- what holds of all keepers' numbers holds of each keeper's own
 pub each_keep : {C : Type 0} (P : ℕ → ℕ → Type 0) (jobs : List (KeepWorker Known C)) → AllByRecursion (λ (o : Owner). P o.place o.number) (keep_owners jobs)
     → AllByRecursion (λ (k : KeepWorker Known C). P k.channel k.port.number) jobs
 each_keep P [] all = tt
@@ -81,6 +84,7 @@ module _ {S C : Type 0} where
   other_job job [] all = tt
   other_job job (j ∷ jobs) all = (all.0, other_job job jobs all.1)
 
+  -- where no two numbers are the same, no two sinks have one number in one channel
   pub other_jobs : (jobs : List (SinkWorker Known S C)) → AllDiffer (sink_owners jobs) → AreOtherJobs jobs
   other_jobs [] all = tt
   other_jobs (job ∷ jobs) all = (other_job job jobs all.0, other_jobs jobs all.1)

@@ -8,6 +8,7 @@ use Rattle.run_settling.specs.Draining.{IsSinkHome, OwnIsKept}
 use Rattle.run_working.specs.Ends.{IsSinkEnded}
 use Rattle.run_settling.specs.declared.at_home.AtHome.{AtHome}
 
+-- passes at home that took others in have their own numbers still
 pub own_kept : OwnIsKept
 own_kept old new took own = λ place d below.
     let low : place < length old = let e = took.as_many in omega (arith, below, e) in

@@ -15,9 +15,11 @@ pub record Same (p q : Known) : Type 0 where
   pub table : q.table_id ≡ p.table_id
   pub numbers : q.view.numbers ≡ p.view.numbers
 
+-- a pass is of its own channel and has its own numbers
 pub same_self : (p : Known) → Same p p
 same_self p = record { table = refl; numbers = refl }
 
+-- after calls a pass is of the same channel and has the same numbers
 pub same_later : (p q : Known) → Later p q → Same p q
 same_later p q later = record { table = later.table; numbers = later.numbers }
 
@@ -55,6 +57,7 @@ module _ {F : Type 0} (pass : F → Known) where
       pub channels' : channels w ≡ places job
       pub ports' : AreSame (passes job) (ports w)
 
+    -- after their run, workers of one kind have ports of their channels
     pub kind_at : {Z : Type 0} (table : Z → TableId) (shares : List Z) (jobs : List J) (ws : List W) → Zips IsSameWorker jobs ws
         → All (λ job. AreAt table shares (λ p. p) (places job) (passes job)) jobs → All (λ w. AreAt table shares pass (channels w) (ports w)) ws
     kind_at table shares [] [] same at = All-nil (λ (w : W). AreAt table shares pass (channels w) (ports w))
@@ -66,6 +69,7 @@ module _ {F : Type 0} (pass : F → Known) where
         (subst (λ (cs : List ℕ). AreAt table shares pass cs (ports w)) (sym same.0.channels') (same_at table shares (places job) (passes job) (ports w) same.0.ports' (All-head P job jobs at)))
         (kind_at table shares jobs ws same.1 (All-tail P job jobs at))
 
+    -- the numbers of their passes are at home, where each came back with something
     pub kind_owned : {E : Type 0} (Ended : W → E → Type 0) (homes : List Known) → ((w : W) (e : E) → Ended w e → TookEach homes pass (channels w) (ports w))
         → (jobs : List J) (ws : List W) (es : List E) → Zips IsSameWorker jobs ws → All (λ job. All IsNew (passes job)) jobs → Zips Ended ws es
         → All (λ o. HasNumber homes o.place o.number) (flat_map (λ job. owners_at (places job) (passes job)) jobs)

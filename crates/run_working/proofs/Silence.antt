@@ -49,9 +49,11 @@ none_other ns n m is other (x ∷ d) all = at (none_other ns n m is other d (res
         let first : AreUnder m (x ∷ calls_by ns d) = subst (λ (b : Bool). AreUnder m (keep b x (calls_by ns d))) mine all in
         absurd (other (sym first.0 ∙ same))
 
+-- no call was made between a pass and itself
 pub silent_self : (n : ℕ) (p : Known) → IsSilent n p p
 silent_self n p = record { base = refl; begins = begins_self p.view.seen; calls = refl }
 
+-- silent first and silent then is silent in all
 pub silent_then : (n : ℕ) (p q r : Known) → IsSilent n p q → IsSilent n q r → IsSilent n p r
 silent_then n p q r f g = record { base = g.base ∙ f.base; begins = prefix_then p.view.seen q.view.seen r.view.seen f.begins g.begins; calls = g.calls ∙ f.calls }
 
@@ -142,6 +144,7 @@ module _ {S C : Type 0} (sink : Told S) (moments : C → Option (ℕ → ℕ)) w
       silent_then n (get_or old place d) (get_or mid place d) (get_or new place d) (step_silent v place n old e b mid others.0 at one d)
       (rest_silent place n ws mid ends backs new others.1 (home_later v place n old e b mid at one) all d)
 
+  -- drainings are silent of each number that is no sink's own
   pub drains_silent : DrainsAreSilent sink moments
   drains_silent place n old new ws ends backs below has_it others all = rest_silent place n ws old ends backs new (recursion_from_All (IsNot place n) ws others) (below, has_it) all
 
@@ -198,6 +201,7 @@ module _ {S C : Type 0} (sink : Told S) (moments : C → Option (ℕ → ℕ)) w
     to_go [] at = tt
     to_go (w ∷ ws) at = ((at.0, λ d. silent_self w.port.number (get_or homes w.channel d)), to_go ws at.1)
 
+  -- sinks with their rounds and drainings are told of in each longer history
   pub sinks_whole : (A B : Type 0) → SinksAreWhole A B sink moments
   sinks_whole A B shares homes drained last jobs workers ends backs told at others all behind =
       all_whole shares homes last jobs workers homes ends backs drained told (to_go shares homes last workers (recursion_from_All (IsSinkHome homes) workers at)) others all (recursion_from_All (IsSilentAt drained last) workers behind)
@@ -217,5 +221,6 @@ module _ {S C : Type 0} (sink : Told S) (moments : C → Option (ℕ → ℕ)) w
     all_other (job ∷ jobs) [] told others = absurd told
     all_other (job ∷ jobs) (w ∷ ws) told others = (other_one job w told.0 jobs ws told.1 others.0, all_other jobs ws told.1 others.1)
 
+  -- sinks that had not one number in one channel have none after their run
   pub others_stay : (A B : Type 0) → OthersStay A B sink moments
   others_stay A B shares homes jobs workers told others = all_other shares homes jobs workers told others

@@ -15,6 +15,7 @@ use Rattle.run_working.proofs.Silence.{silent_under}
 later_under : (p q : Known) → Later p q → Later (under p.number p) (under p.number q)
 later_under p q later = subst (λ (k : Known). Later p k) (λ i. record q { number = later.number i }) later
 
+-- keeping channels at the stop is silent of each number but the one that the pass at home carries
 pub keeps_silent : (A B : Type 0) (disk : A → Opening → List Step → Type 0) (tells : A → Bool) (moment : A → ℕ) (laid : A → State → Type 0) (pruned : A → Type 0)
     → KeepsAreSilent A B disk tells moment laid pruned
 keeps_silent A B disk tells moment laid pruned share shares closes old new did =
@@ -24,6 +25,7 @@ keeps_silent A B disk tells moment laid pruned share shares closes old new did =
       λ place n below mine other d. silent_under n (get_or old place d).number (get_or old place d) (get_or new place d) (mine d) (other d) (later_under (get_or old place d) (get_or new place d) (later place d below)),
     )
 
+-- mending channels at the stop is silent of each number but the one that the pass at home carries
 pub mends_silent : (A B : Type 0) (disk : A → Opening → List Step → Type 0) (tells : A → Bool) (moment : A → ℕ) → MendsAreSilent A B disk tells moment
 mends_silent A B disk tells moment share shares old new answers did = (
   mended_go_on A B disk tells moment share shares old new answers did,
@@ -36,6 +38,7 @@ counted p q is = subst (λ (k : Known). GoesOn p k × ((n : ℕ) → IsSilent n 
   λ n. record { base = refl; begins = begins_self p.view.seen; calls = refl },
 )
 
+-- counting channels is silent of each number
 pub counts_silent : CountsAreSilent
 counts_silent named old new before after did = (
   record { as_many = did.as_many; each = λ place d below. (counted (get_or old place d) (get_or new place d) (did.each place d d named named below).pass).0 },

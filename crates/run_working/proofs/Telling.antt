@@ -57,6 +57,7 @@ use Rattle.run_working.proofs.Owning.{ended_home}
 
 module _ {R A B : Type 0} (disk : A → Opening → List Step → Type 0) (memory : B → Opening → List Step → Type 0)
     {S C : Type 0} (delivers : S → List Content → ℕ → Result (Unit {0}) SinkRefused → S → Type 0) (faults : S → ℕ) (moments : C → Option (ℕ → ℕ)) where
+  -- a sink's rounds are calls with its number in its channel's history
   pub sink_told : (shares : List (EitherShared A B)) (homes : List Known) (job : SinkWorker Known S C) (v w : SinkWorker (EitherPort R A B) S C)
       (back : SinkWorker AtHome S C) → IsNew job.port → IsSinkOpened shares job v → SinkRuns disk memory delivers faults moments v w
       → IsSinkEnded pass_of homes w back → IsSinkTold (told delivers faults) moments shares homes job back
@@ -85,6 +86,7 @@ module _ {R A B : Type 0} (disk : A → Opening → List Step → Type 0) (memor
         batch = gone.batch ∙ ran.batch ∙ opened.batch;
       }
 
+  -- the number of a sink that came back is at home
   pub sink_home : (shares : List (EitherShared A B)) (homes : List Known) (job : SinkWorker Known S C) (v w : SinkWorker (EitherPort R A B) S C)
       (back : SinkWorker AtHome S C) → IsNew job.port → IsSinkOpened shares job v → SinkRuns disk memory delivers faults moments v w
       → IsSinkEnded pass_of homes w back → IsSinkHome homes back
@@ -163,6 +165,7 @@ stops_last (round ∷ next ∷ front) last going = (going.0, stops_last (next �
 
 module _ {R A B : Type 0} (disk : A → Opening → List Step → Type 0) (memory : B → Opening → List Step → Type 0)
     {N C K : Type 0} (Means : Meaning K) (moments : C → Option (ℕ → ℕ)) (heard : N → Heard) (stands : N → Option Endpoint) where
+  -- a listener's rounds are calls with its numbers in its channels' histories
   pub listen_told : (shares : List (EitherShared A B)) (homes : List Known) (job : ListenWorker Known N C K) (v w : ListenWorker (EitherPort R A B) N C K)
       (listener : N) → All IsNew job.ports.items → IsListenOpened shares job v → ListenRuns disk memory Means moments heard stands v w
       → IsListenEnded pass_of homes w listener → IsListenTold Means moments heard shares homes job listener
@@ -197,6 +200,7 @@ module _ {R A B : Type 0} (disk : A → Opening → List Step → Type 0) (memor
 
 module _ {R A B : Type 0} (disk : A → Opening → List Step → Type 0) (memory : B → Opening → List Step → Type 0)
     {I O C K : Type 0} (Means : Meaning K) (moments : C → Option (ℕ → ℕ)) (talk : I → O → Talk) where
+  -- the lines of a worker's session are calls with its numbers in its channels' histories
   pub line_told : (shares : List (EitherShared A B)) (homes : List Known) (job : LineWorker Known I O C K) (v w : LineWorker (EitherPort R A B) I O C K)
       (back : LineEnded I O) → All IsNew job.ports.items → IsLineOpened shares job v → LineRuns disk memory Means moments talk v w
       → IsLineEnded pass_of homes w back → IsLineTold Means moments talk shares homes job back

@@ -59,6 +59,7 @@ module _ {A B C : Type 0} (shares : List (EitherShared A B)) (homes last : List 
         ended_same q job.port new (took_silent p q job.port job.port.number new.0 (on.each job.channel home gone.0) (silent home) (gone.1 home));
   }
 
+  -- keepers that did not run are told of with no round
   pub keepers_unrun : (jobs : List (KeepWorker Known C)) → All (λ (k : KeepWorker Known C). IsNew k.port) jobs → All (λ (k : KeepWorker Known C). StaysSilent k.channel k.port.number homes last) jobs
       → All (IsKeepEnded (λ (p : Known). p) homes) jobs → All (IsKeepTold shares last) jobs
   keepers_unrun [] new silent gone = All-nil (IsKeepTold shares last)
@@ -81,6 +82,7 @@ module _ {A B S C : Type 0} (sink : Told S) (moments : C → Option (ℕ → ℕ
     batch = gone.batch;
   }
 
+  -- sinks that did not run are told of with no round
   pub sinks_unrun : (jobs : List (SinkWorker Known S C)) (backs : List (SinkWorker AtHome S C)) → All (λ (s : SinkWorker Known S C). IsNew s.port) jobs
       → Zips (IsSinkEnded (λ (p : Known). p) homes) jobs backs → Zips (IsSinkTold sink moments shares homes) jobs backs
   sinks_unrun [] [] new gone = tt
@@ -111,6 +113,7 @@ module _ {A B N C K : Type 0} (Means : Meaning K) (moments : C → Option (ℕ �
         rounds = λ share i. record { into = record { route = record { links = []; ports = tracks i }; moments = moments job.clock }; heard = heard (gone.same i); due = false };
       }
 
+  -- listeners that did not run are told of with no round
   pub listeners_unrun : (jobs : List (ListenWorker Known N C K)) (listeners : List N) → All (λ (l : ListenWorker Known N C K). All IsNew l.ports.items) jobs
       → All (λ (l : ListenWorker Known N C K). AreSilentAt homes last l.channels.items l.ports.items) jobs
       → Zips (IsListenEnded (λ (p : Known). p) homes) jobs listeners → Zips (IsListenTold Means moments heard shares last) jobs listeners

@@ -72,6 +72,7 @@ module _ {F : Type 0} (pass : F → Known) (saw : F → List Own → State → T
       (later_then (pass a) (pass between) (pass mid) (face.laters a between checks.same) (face.laters between mid prunes.same))
       (mend_later (needs_mend upkeep.checked upkeep.pruned) mid b mends)
 
+  -- after rounds of a keeper its pass is a later one of the same channel
   pub keeps_later : (upkeeps : List Upkeep) (a b : F) → FaceRounds upkeeps a b → Later (pass a) (pass b)
   keeps_later [] a b same = same_later a b same
   keeps_later (upkeep ∷ upkeeps) a b (next, one, others) =

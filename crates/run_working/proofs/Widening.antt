@@ -53,6 +53,7 @@ module _ (whole : List Step) where
     if_whole true a b (result, once) = ap (λ (t : Track). t.whole) once.2
     if_whole false a b none = ap (λ (x : Taking Track S). x.from.whole) none
 
+    -- rounds in a track's history are rounds in any history that it begins
     pub rounds_wider : (turns : List Turn) (a b : Taking Track S) → IsPrefix a.from.whole whole → Rounds (Turned sink most) (Mended D) turns a b → Rounds (Turned sink most) (Mended D) turns (widely a) (widely b)
     rounds_wider [] a b begins none = ap widely none
     rounds_wider (turn ∷ turns) a b begins (next, (between, one, due), others) =

@@ -4,12 +4,14 @@ use Rattle.std.proofs.lemmas.List.Elements.{All-cons, All-head, All-nil, All-tai
 use Rattle.crew.specs.Rows.{EachRan}
 use Rattle.run_tracks.specs.Places.{Zips}
 
+-- what follows for each pair follows for the pairs of two lists
 pub zips_map : {A B : Type 0} (R S : A → B → Type 0) → ((a : A) (b : B) → R a b → S a b) → (xs : List A) (ys : List B) → Zips R xs ys → Zips S xs ys
 zips_map R S f [] [] z = tt
 zips_map R S f [] (b ∷ ys) z = absurd z
 zips_map R S f (a ∷ xs) [] z = absurd z
 zips_map R S f (a ∷ xs) (b ∷ ys) z = (f a b z.0, zips_map R S f xs ys z.1)
 
+-- what holds of each thing with itself holds of a list with itself
 pub zips_self : {A : Type 0} (R : A → A → Type 0) → ((a : A) → R a a) → (xs : List A) → Zips R xs xs
 zips_self R f [] = tt
 zips_self R f (a ∷ xs) = (f a, zips_self R f xs)
@@ -32,6 +34,7 @@ zips_all R P Q f [] (b ∷ ys) all z = absurd z
 zips_all R P Q f (a ∷ xs) [] all z = absurd z
 zips_all R P Q f (a ∷ xs) (b ∷ ys) all z = All-cons Q b ys (f a b (All-head P a xs all) z.0) (zips_all R P Q f xs ys (All-tail P a xs all) z.1)
 
+-- what follows for each thing of a list follows for all
 pub all_map : {A : Type 0} (P Q : A → Type 0) → ((a : A) → P a → Q a) → (xs : List A) → All P xs → All Q xs
 all_map P Q f [] all = All-nil Q
 all_map P Q f (a ∷ xs) all = All-cons Q a xs (f a (All-head P a xs all)) (all_map P Q f xs (All-tail P a xs all))

@@ -25,10 +25,12 @@ use Rattle.shared_channel.proofs.Turning.{answers, gone, looks, shows_seen}
 
 -- the machine refuses none of them because no more calls are counted
 
+-- a checkpoint that the machine answers was not refused for want of counted calls
 pub check_spares : (s : State) (reply : Result (Unit {0}) CheckRefused) → AdmitsCheckpoint s reply → is_spent_check reply ≡ false
 check_spares s (Err (CheckNo.Spent Calls)) may = absurd (let is : Calls ≡ Check = may.1 in cc)
 check_spares s reply may = refl
 
+-- a prune that the machine answers was not refused for want of counted calls
 pub prune_spares : (s : State) (reply : Result ℕ PruneRefused) → AdmitsPrune s reply → is_spent_prune reply ≡ false
 prune_spares s (Err (PruneNo.Spent Calls)) may = absurd may
 prune_spares s reply may = refl
@@ -37,6 +39,7 @@ no_open : {A B : Type 0} → ((Calls ≡ Life) × A) ⊎ ((Calls ≡ File) × B)
 no_open (inl h) = let is : Calls ≡ Life = h.0 in cc
 no_open (inr h) = let is : Calls ≡ File = h.0 in cc
 
+-- a reopening that the machine answers was not refused for want of counted calls
 pub open_spares : (tells : Bool) (s : State) (kept : Reopened) (reply : Result (Unit {0}) OpenCause) → AdmitsReopen tells s (reopen_reply reply kept) → is_spent_open reply ≡ false
 open_spares tells s kept (Err (OpenNo.Spent Calls)) may = absurd (no_open may)
 open_spares tells s kept reply may = refl
@@ -57,6 +60,7 @@ laid_seen stands tells table P (Err refused) told old v holds counted call shows
 -- From the pass before a lock to its views after it, with a reopening or a mend under the lock.
 module _ {C : Type 0} (stands : C → Opening → List Step → Type 0) (tells : C → Bool) (table held : TableId) (number : ℕ) (before after : List View) (p : Known) (is : known table number before ≡ p) (own : has (view_of before).numbers number ≡ true)
     (a b : Holder C) (mine : a.by ≡ number) (making : Making (view_of before) [] a.seat.me.0) (count : ℕ) (released : IsReleased stands tells b after count) (moment : C → ℕ) where
+  -- a reopening under the lock is one from the pass before it to the view after it
   pub reopens : (reply : Result (Unit {0}) OpenCause) → TriesReopen stands held moment reply a b → Reopens stands tells moment p.view p.number reply (view_of after)
   reopens reply tried = (tried.0, answers stands tells table held number before after p is own a b mine making count released moment (is_spent_open reply) (Reopen (reopen_reply reply tried.0)) tried.1)
 
@@ -82,6 +86,7 @@ module _ {C : Type 0} (stands : C → Opening → List Step → Type 0) (tells :
       let s : Step = made_by moment a (Reopen (reopen_reply reply tried.0)) b in
       (reopens reply tried, (a.seat.me.0.seen, made_if (not (is_spent_open reply)) s, released.seen ∙ tried.1.0.seen, length_made (is_spent_open reply) s, subst (λ (o : Opening). (state_after (opening o) a.seat.me.0.seen).broken ≡ true) (based _ tried.1.0) broken))
 
+  -- a mend under the lock is one from the pass before it to the view after it
   pub mends : (result : Result Bool OpenCause) → MakesMended stands held moment result a b → Mends stands tells moment p.view p.number result (view_of after)
   mends (Ok false) made =
       let seen : a.seat.me.0.seen ≡ (view_of after).seen = sym (released.seen ∙ made.0.seen ∙ append-nil a.seat.me.0.seen) in

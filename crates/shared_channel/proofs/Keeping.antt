@@ -45,6 +45,7 @@ module _ {A : Type 0} (F : State → List Step → A) (op : State → Call → A
       by_count true is = by_step s x (counted_calls h)
       by_count false is = sym (uncounted (λ (call : Call). op s call (F (after s call) (counted_calls h))) (F s (counted_calls h)) (λ token. no_put s token (F s (counted_calls h))) (λ token. no_take s token (F s (counted_calls h))) x.call is)
 
+-- calls that are not counted do not change the state
 pub counted_state : (s : State) (h : List Step) → state_after s (counted_calls h) ≡ state_after s h
 counted_state = same_fold state_after (λ s call t. t) (λ s x h. refl) (λ s token t. refl) (λ s token t. refl)
 
@@ -52,6 +53,7 @@ keep_run : (tells : Bool) (s : State) (x : Step) (h : List Step) → Admits tell
 keep_run tells s x h may run true is = (may, run)
 keep_run tells s x h may run false is = subst (λ (t : State). IsRun tells t (counted_calls h)) (uncounted (after s) s (λ token. refl) (λ token. refl) x.call is) run
 
+-- the counted calls of a run are a run
 pub counted_run : (tells : Bool) (s : State) (h : List Step) → IsRun tells s h → IsRun tells s (counted_calls h)
 counted_run tells s [] run = tt
 counted_run tells s (x ∷ h) run = keep_run tells s x h run.0 (counted_run tells (after s x.call) h run.1) (is_counted x.call) refl
@@ -78,6 +80,7 @@ agrees start all h is = record {
   journal = sym (same_journal (opening start) all) ∙ ap (λ (l : List Step). journal (opening start) l) is;
 }
 
+-- a channel that stands for counted calls agrees with them in state, counts and journal
 pub stands_agreeing : {C : Type 0} (stands : C → Opening → List Step → Type 0) (c : C) (start : Opening) (h : List Step) → StandsCounting stands c start h → StandsAgreeing stands c start h
 stands_agreeing stands c start h k = (k.0, k.1, k.2, agrees start k.0 h k.2)
 
@@ -88,6 +91,7 @@ module _ {C : Type 0} (stands : C → Opening → List Step → Type 0) (tells :
   abbrev pub TellsAsOpened : Type 0
   TellsAsOpened = (c : C) (start : Opening) (h : List Step) → stands c start h → start.tells ≡ tells c
 
+  -- the counted calls that a channel stands for are a run
   pub kept_run : Law → (c : C) (start : Opening) (h : List Step) → StandsCounting stands c start h → IsRun (tells c) (opening start) h
   kept_run law c start h k = subst (λ (l : List Step). IsRun (tells c) (opening start) l) k.2 (counted_run (tells c) (opening start) k.0 (law c start k.0 k.1))
 
@@ -98,6 +102,7 @@ module _ {C : Type 0} (stands : C → Opening → List Step → Type 0) (tells :
   pub kept_shows : (c : C) (start : Opening) (h : List Step) (P : State → Type 0) → Shows (stands c) P → StandsCounting stands c start h → P (state_after (opening start) h)
   kept_shows c start h P shows k = subst P (same_state c start h k) (shows start k.0 k.1)
 
+  -- what a channel counts is the count of its counted calls
   pub kept_counts : (c : C) (start : Opening) (h : List Step) (counts : Counts) → ((o : Opening) (l : List Step) → stands c o l → counts ≡ counts_of o l) → StandsCounting stands c start h → counts ≡ counts_of start h
   kept_counts c start h counts told k = told start k.0 k.1 ∙ sym (same_counts start k.0) ∙ ap (counts_of start) k.2
 
@@ -138,6 +143,7 @@ module _ {C : Type 0} (stands : C → Opening → List Step → Type 0) (tells :
     pub room : ended ≡ true → length h + 1 < 2 ^ 64
     room so = let e = ends so in let r = k.room.room in omega arith
 
+    -- a rollback that ended a transaction is counted, and the channel is kept with it
     pub rolled : ended ≡ true → (by : ℕ) → Keeps stands d start (h ++ step by (rollback true) moment ∷ [])
     rolled so by =
         let last = step by (rollback true) moment in

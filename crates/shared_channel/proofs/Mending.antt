@@ -56,14 +56,18 @@ module _ {C : Type 0} (stands : C → Opening → List Step → Type 0) (tells :
   -- what the clauses of those who keep a channel say
 
   module _ (p q : Known) (same : (q.table_id ≡ p.table_id) × (q.number ≡ p.number)) where
+    -- a look that showed this of the state is told as a look
     pub look_told : (P : State → Type 0) → Looks stands tells p.view q.view → P (state_seen q.view) → Told p q (IsLook (Saw stands q.view) P)
     look_told P look shown = told p q (IsLook (Saw stands q.view) P) same (looked p.view q.view p.number P look shown)
 
+    -- a mend is told as one, whether it reopened the channel or left it
     pub mend_told : (result : Result Bool OpenCause) → Mends stands tells moment p.view p.number result q.view → Told p q (IsMend (Unit {0}) (Saw stands q.view) (length q.view.seen) result)
     mend_told result m = told p q (IsMend (Unit {0}) (Saw stands q.view) (length q.view.seen) result) same (mend_goes p.view q.view p.number result m)
 
+    -- a checkpoint is told as one that was answered so
     pub check_told : (reply : Result (Unit {0}) CheckRefused) → Answers stands tells moment (is_spent_check reply) p.view p.number (Checkpoint reply) q.view → Told p q (λ earlier. IsCheck (length q.view.seen) reply)
     check_told reply a = told p q (λ earlier. IsCheck (length q.view.seen) reply) same (one_call stands tells moment (is_spent_check reply) p.view q.view p.number (Checkpoint reply) a)
 
+    -- a prune is told as one that was answered so
     pub prune_told : (reply : Result ℕ PruneRefused) → Answers stands tells moment (is_spent_prune reply) p.view p.number (Prune reply) q.view → Told p q (λ earlier. IsPrune (length q.view.seen) reply)
     prune_told reply a = told p q (λ earlier. IsPrune (length q.view.seen) reply) same (one_call stands tells moment (is_spent_prune reply) p.view q.view p.number (Prune reply) a)

@@ -39,6 +39,7 @@ own_if-append : (b : Bool) (o : Own) (x y : List Own) → own_if b o (x ++ y) �
 own_if-append true o x y = refl
 own_if-append false o x y = refl
 
+-- one's own calls of two lists are those of the first and then those of the second
 pub own-append : (ns : List ℕ) (s : State) (a b : List Step) → own_calls ns s (a ++ b) ≡ own_calls ns s a ++ own_calls ns (state_after s a) b
 own-append ns s [] b = refl
 own-append ns s (x ∷ a) b =
@@ -95,6 +96,7 @@ none_between ns a between es l all told own =
     let lengths : length ((calls_by ns a ++ calls_by ns between) ++ calls_by ns es) ≡ length (calls_by ns a ++ es) = ap length (sym sum ∙ told) in
     nil_of (calls_by ns between) (omega (arith, lengths, length-append (calls_by ns a ++ calls_by ns between) (calls_by ns es), length-append (calls_by ns a) (calls_by ns between), length-append (calls_by ns a) es, ap length own))
 
+-- from a view to one that has seen calls of others and then one's own of a turn
 pub went_made : (by : ℕ) (v w : View) (es : List Step) → (m : MadeInTurn v es w) → AreUnder by es → Went by v w (own_calls v.numbers (begun v m.0) es)
 went_made by v w es m under = went_from by v w m.0 es m.1 m.2 (none_between v.numbers v.seen m.0 es w.seen m.2 m.3 m.5) under
 
@@ -121,18 +123,23 @@ went_then by v w x a b f g = record {
 went_none : (by : ℕ) (v : View) → Went by v v []
 went_none by v = record { base = refl; passes = refl; numbers = refl; begins = ([], append-nil v.seen); under = tt; owned = sym (append-nil (owned v)) }
 
+-- a view has seen no less after one's own calls
 pub grows : (by : ℕ) (v w : View) (more : List Own) → Went by v w more → length v.seen ≤ length w.seen
 grows by v w more f = omega (arith, length-append v.seen f.begins.0, ap length f.begins.1)
 
+-- some calls and then others, of which something is true together
 pub goes_then : (by : ℕ) (v w x : View) (P Q R : List Own → List Own → Type 0) → WentBy by v w P → WentBy by w x Q → ((a b : List Own) → P (owned v) a → Q (owned v ++ a) b → R (owned v) (a ++ b)) → WentBy by v x R
 goes_then by v w x P Q R f g join = (f.0 ++ g.0, went_then by v w x f.0 g.0 f.1 g.1, join f.0 g.0 f.2 (subst (λ l. Q l g.0) f.1.owned g.2))
 
+-- the same calls, of which something else is true too
 pub goes_as : (by : ℕ) (v w : View) (P Q : List Own → List Own → Type 0) → WentBy by v w P → ((a : List Own) → P (owned v) a → Q (owned v) a) → WentBy by v w Q
 goes_as by v w P Q f turn = (f.0, f.1, turn f.0 f.2)
 
+-- a view has seen no less after calls of which something is true
 pub goes_grows : (by : ℕ) (v w : View) (P : List Own → List Own → Type 0) → WentBy by v w P → length v.seen ≤ length w.seen
 goes_grows by v w P f = grows by v w f.0 f.1
 
+-- such calls come after whatever calls were one's own
 pub gains : (by : ℕ) (v w : View) (P : List Own → List Own → Type 0) → WentBy by v w P → Gains (AreOwned v) (AreOwned w) P
 gains by v w P f start earlier own is = (f.0, (is.0 ∙ sym f.1.base, is.1, ap (λ l. l ++ f.0) is.2 ∙ sym f.1.owned), subst (λ l. P l f.0) (sym is.2) f.2)
 
@@ -148,9 +155,11 @@ later p q P same f = went_later p q f.0 same f.1
 abbrev pub Told : Known → Known → (List Own → List Own → Type 0) → Type 0
 Told p q P = (length p.view.seen ≤ length q.view.seen) × Gains (AreOwned p.view) (AreOwned q.view) P × Later p q
 
+-- the clauses of a face say this of such calls, from one pass to the other
 pub told : (p q : Known) (P : List Own → List Own → Type 0) → (q.table_id ≡ p.table_id) × (q.number ≡ p.number) → WentBy p.number p.view q.view P → Told p q P
 told p q P same f = (goes_grows p.number p.view q.view P f, gains p.number p.view q.view P f, later p q P same f)
 
+-- a call that is one's own carries a number of one's own
 pub own_one : (ns : List ℕ) (x : Step) → calls_by ns (x ∷ []) ≡ x ∷ [] → has ns x.pass ≡ true
 own_one ns x is = by_own (has ns x.pass) is
   where
@@ -174,6 +183,7 @@ made_up : (seen seen' : ℕ) (spent : Bool) (call : Call) (s : State) (own : Lis
 made_up seen seen' false call s own le m = m
 made_up seen seen' true call s own le m = (m.0, let b = m.1 in omega arith)
 
+-- puts up to a refusal stay so where more is seen
 pub puts_up : (seen seen' : ℕ) (token : Token) (events : List Content) (reply : Result (Unit {0}) PutRefused) (own : List Own) → seen ≤ seen' → ArePutUpTo seen token events reply own → ArePutUpTo seen' token events reply own
 puts_up seen seen' token events (Ok done) own le all = all
 puts_up seen seen' token events (Err refused) own le all = (all.0, all.1, all.2, all.3, all.4, all.5, all.6, all.7, all.8, made_up seen seen' (is_spent_put (Err refused)) (Put token all.2 (Err refused)) all.3 all.5 le all.9)
@@ -219,11 +229,13 @@ module _ {C : Type 0} (stands : C → Opening → List Step → Type 0) (tells :
   mended_seen v w by (Ok true) m = all_seen (is_spent_open m.0) v w by (Reopen (reopen_reply m.0 m.1.0)) m.1.1
   mended_seen v w by (Err cause) m = all_seen (is_spent_open m.0) v w by (Reopen (reopen_reply m.0 m.1.0)) m.1.1
 
+  -- a mend leads from one view to the other
   pub mended_goes : (v w : View) (by : ℕ) (result : Result Bool OpenCause) → Mends stands tells moment v by result w → WentBy by v w (λ earlier more. Unit {0})
   mended_goes v w by (Ok false) m = ([], (none_made v w by m.0).0, tt)
   mended_goes v w by (Ok true) m = let f = one_call (is_spent_open m.0) v w by (Reopen (reopen_reply m.0 m.1.0)) m.1.1 in (f.0, f.1, tt)
   mended_goes v w by (Err cause) m = let f = one_call (is_spent_open m.0) v w by (Reopen (reopen_reply m.0 m.1.0)) m.1.1 in (f.0, f.1, tt)
 
+  -- all that was seen is stood for after a rollback too
   pub all_seen_back : (ended : Bool) (v w : View) (by : ℕ) (call : Call) (IsStale : State → Type 0) → RolledBack stands tells moment ended v by call IsStale w → SawAll stands tells w
   all_seen_back true v w by call IsStale r = (r.0, r.1.seen)
   all_seen_back false v w by call IsStale r = (r.0.0, r.0.1.seen)
@@ -235,10 +247,12 @@ module _ {C : Type 0} (stands : C → Opening → List Step → Type 0) (tells :
 
   -- a stage and what follows
 
+  -- puts that were staged and then settled are staged, in doubt unless that is sure
   pub staged_put : (v w x : View) (by by' : ℕ) (token : Token) (t : Ticket) (sure : Bool) (result : Result ℕ FaceRefused) → Answers stands tells moment false v by (StagePut token (Ok t)) w → by' ≡ by → Settles stands by' w x t sure → result ≡ in_doubt_unless sure t.first → WentBy by v x (IsPutStage (Saw stands x) (length x.seen) token result)
   staged_put v w x by by' token t sure result a one ends is =
       call_then false v w x by by' (StagePut token (Ok t)) (λ earlier more. Ends (Saw stands x) (length x.seen) t earlier more sure) (IsPutStage (Saw stands x) (length x.seen) token result) a one ends (λ s p q m e. (Ok t, s, p, q, refl, m, (sure, e, is)))
 
+  -- takes that were staged and then settled are committed, in doubt unless that is sure
   pub staged_take : (v w x : View) (by by' : ℕ) (token : Token) (t : Ticket) (sure : Bool) (result : Result (Unit {0}) FaceRefused) → Answers stands tells moment false v by (StageTake token (Ok t)) w → by' ≡ by → Settles stands by' w x t sure → result ≡ in_doubt_unless sure tt → WentBy by v x (IsTakeCommit (Saw stands x) (length x.seen) token result)
   staged_take v w x by by' token t sure result a one ends is =
       call_then false v w x by by' (StageTake token (Ok t)) (λ earlier more. Ends (Saw stands x) (length x.seen) t earlier more sure) (IsTakeCommit (Saw stands x) (length x.seen) token result) a one ends (λ s p q m e. (Ok t, s, p, q, refl, m, (sure, e, is)))
@@ -251,11 +265,13 @@ module _ {C : Type 0} (stands : C → Opening → List Step → Type 0) (tells :
       let back = subst (λ (k : Token). WentBy by' w x (IsRolledBack (Saw stands x) (rollback k) (IsStale k))) same (rolls ended w x by' (rollback other) (IsStale other) rolled) in
       call_then (is_spent_stage (Err cause)) v w x by by' (stage token (Err cause)) (IsRolledBack (Saw stands x) (rollback token) (IsStale token)) R a one back join
 
+  -- puts whose stage was refused are rolled back, unless their token is stale
   pub unstaged_put : (v w x : View) (by by' : ℕ) (token other : Token) (cause : StageCause) (ended : Bool) → Answers stands tells moment (is_spent_stage (Err cause)) v by (StagePut token (Err cause)) w → by' ≡ by → other ≡ token → RolledBack stands tells moment ended w by' (RollbackPut other true) (λ s. puts_of s other ≡ None) x
       → WentBy by v x (IsPutStage (Saw stands x) (length x.seen) token (Err (Face.Stage cause)))
   unstaged_put v w x by by' token other cause ended a one same rolled =
       unstaged v w x by by' token other cause ended StagePut RollbackPut (λ k s. puts_of s k ≡ None) (IsPutStage (Saw stands x) (length x.seen) token (Err (Face.Stage cause))) a one same rolled (λ s p q m e. (Err cause, s, p, q, refl, m, (e, refl)))
 
+  -- takes whose stage was refused are rolled back, unless their token is stale
   pub unstaged_take : (v w x : View) (by by' : ℕ) (token other : Token) (cause : StageCause) (ended : Bool) → Answers stands tells moment (is_spent_stage (Err cause)) v by (StageTake token (Err cause)) w → by' ≡ by → other ≡ token → RolledBack stands tells moment ended w by' (RollbackTake other true) (λ s. takes_of s other ≡ None) x
       → WentBy by v x (IsTakeCommit (Saw stands x) (length x.seen) token (Err (Face.Stage cause)))
   unstaged_take v w x by by' token other cause ended a one same rolled =
@@ -263,12 +279,14 @@ module _ {C : Type 0} (stands : C → Opening → List Step → Type 0) (tells :
 
   -- puts, one after another
 
+  -- one event more was put
   pub put_one : (v w x : View) (by by' : ℕ) (token other : Token) (events events' : List Content) (event : Content) (done : PutDone) → WentBy by v w (λ earlier. ArePut token events) → Answers stands tells moment false w by' (Put other event (Ok done)) x → by' ≡ by → other ≡ token → events' ≡ events ++ event ∷ [] → WentBy by v x (λ earlier. ArePut token events')
   put_one v w x by by' token other events events' event done goes a one same is =
       goes_then by v w x (λ earlier. ArePut token events) (IsOne (length x.seen) false (Put other event (Ok done))) (λ earlier. ArePut token events') goes
       (subst (λ (n : ℕ). WentBy n w x (IsOne (length x.seen) false (Put other event (Ok done)))) one (one_call false w x by' (Put other event (Ok done)) a))
       (λ p q all h. rw (is, h.1.1, same) (puts-push token events p event done h.0 h.1.0 all))
 
+  -- a put that was refused ends the puts
   pub put_refused : (v w x : View) (by by' : ℕ) (token other : Token) (events all back : List Content) (event : Content) (refused : PutRefused) → WentBy by v w (λ earlier. ArePut token events) → Answers stands tells moment (is_spent_put (Err refused)) w by' (Put other event (Err refused)) x → by' ≡ by → other ≡ token → all ≡ events ++ event ∷ back
       → WentBy by v x (λ earlier. ArePutUpTo (length x.seen) token all (Err refused))
   put_refused v w x by by' token other events all back event refused goes a one same is =
@@ -278,11 +296,13 @@ module _ {C : Type 0} (stands : C → Opening → List Step → Type 0) (tells :
 
   -- a whole batch
 
+  -- a batch whose begin was refused is answered with that refusal
   pub batch_unbegun : (v w : View) (by : ℕ) (events : List Content) (refused : BeginRefused) → Answers stands tells moment (is_spent_begin (Err refused)) v by (BeginPut (Err refused)) w → WentBy by v w (IsPutBatch (Saw stands w) (length w.seen) events (Err (Face.Begin refused)))
   batch_unbegun v w by events refused a =
       goes_as by v w (IsOne (length w.seen) (is_spent_begin (Err refused)) (BeginPut (Err refused))) (IsPutBatch (Saw stands w) (length w.seen) events (Err (Face.Begin refused))) (one_call (is_spent_begin (Err refused)) v w by (BeginPut (Err refused)) a)
       (λ p h. (Err refused, h.0, p, [], sym (append-nil p), h.1, (refl, refl)))
 
+  -- a batch is a begin, the puts, and what ends them
   pub batch_begun : (v w x y : View) (by by' by'' : ℕ) (events : List Content) (token other : Token) (reply : Result (Unit {0}) PutRefused) (result : Result ℕ FaceRefused) → Answers stands tells moment false v by (BeginPut (Ok token)) w → by' ≡ by → by'' ≡ by → other ≡ token → WentBy by' w x (λ earlier. ArePutUpTo (length x.seen) token events reply)
       → WentBy by'' x y (λ earlier more. EndsPuts (Saw stands y) (length y.seen) other reply earlier more result) → WentBy by v y (IsPutBatch (Saw stands y) (length y.seen) events result)
   batch_begun v w x y by by' by'' events token other reply result a one two same puts ends =
@@ -295,18 +315,21 @@ module _ {C : Type 0} (stands : C → Opening → List Step → Type 0) (tells :
 
   -- what the clauses of a face of takes say of a begin, and of a take
 
+  -- a begin of takes is told as it was answered
   pub take_begun : (p q : Known) (reply : Result Token BeginRefused) (result : Result Token FaceRefused) → (q.table_id ≡ p.table_id) × (q.number ≡ p.number) → Answers stands tells moment (is_spent_begin reply) p.view p.number (BeginTake reply) q.view → result ≡ begun_as reply
       → Told p q (λ earlier. IsTakeBegun (length q.view.seen) result)
   take_begun p q reply result same a is =
       let made = one_call (is_spent_begin reply) p.view q.view p.number (BeginTake reply) a in
       told p q (λ earlier. IsTakeBegun (length q.view.seen) result) same (made.0, made.1, (reply, made.2.0, made.2.1, is))
 
+  -- a take is told as it was answered
   pub taken : (p q : Known) (token : Token) (reply : Result Taken TakeRefused) (result : Result (Option Content) FaceRefused) → (q.table_id ≡ p.table_id) × (q.number ≡ p.number) → Answers stands tells moment (is_spent_take reply) p.view p.number (Take token reply) q.view → result ≡ taken_event reply
       → Told p q (λ earlier. IsTake (length q.view.seen) token result)
   taken p q token reply result same a is =
       let made = one_call (is_spent_take reply) p.view q.view p.number (Take token reply) a in
       told p q (λ earlier. IsTake (length q.view.seen) token result) same (made.0, made.1, (reply, made.2.0, made.2.1, is))
 
+-- before the first event nothing was put
 pub puts_none : (by : ℕ) (v : View) (token : Token) → WentBy by v v (λ earlier. ArePut token [])
 puts_none by v token = ([], went_none by v, refl)
 

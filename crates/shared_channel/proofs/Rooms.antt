@@ -113,8 +113,10 @@ ends read none s token true is = without_one token.number s.opened (there (entry
     there None e = absurd (cc)
     there (Some entry) e = refl
 
+-- a rollback of puts whose token is not stale ends one transaction
 pub put_ends : (s : State) (token : Token) → true ≡ is_some_of (puts_of s token) → length (close token.number s).opened + 1 ≡ length s.opened
 put_ends s token is = ends as_puts refl s token (token.life == s.life) is
 
+-- a rollback of takes whose token is not stale ends one transaction
 pub take_ends : (s : State) (token : Token) → true ≡ is_some_of (takes_of s token) → length (close token.number s).opened + 1 ≡ length s.opened
 take_ends s token is = ends as_takes refl s token (token.life == s.life) is

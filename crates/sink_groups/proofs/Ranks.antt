@@ -51,6 +51,7 @@ range-push : (a n : ℕ) → range_with_len a (suc n) ≡ range_with_len a n ++ 
 range-push a zero = ap (λ (x : ℕ). x ∷ []) (omega arith)
 range-push a (suc n) = ap (λ (l : List ℕ). a ∷ l) (range-push (a + 1) n ∙ ap (λ (x : ℕ). range_with_len (a + 1) n ++ x ∷ []) (omega arith))
 
+-- one member more is the next number at the end
 pub range-all : (n : ℕ) → range_with_len 0 (suc n) ≡ range_with_len 0 n ++ n ∷ []
 range-all n = range-push 0 n ∙ ap (λ (x : ℕ). range_with_len 0 n ++ x ∷ []) (omega arith)
 
@@ -62,6 +63,7 @@ module _ (priority : ℕ → ℕ) (ranks : List Rank) (true_to : All (λ r. (r.0
       let far : below b a ≡ false = sorted_far below is_order ranks sorted i j d (omega arith) within in
       rw (sym (true_to i d (omega arith)), sym (true_to j d within)) (first_of_two (a.0).0 (b.0).0 a.1 b.1 (apart (b.0).0 b.1 (a.0).0 a.1 far))
 
+  -- members of sorted ranks go before each other by priority
   pub members_sorted : AllPairs (GoesBefore priority) (map (λ (r : Rank). r.1) ranks)
   members_sorted i j d rises within =
       let e : Rank = (record { 0 = 0 }, d) in
@@ -84,8 +86,10 @@ range_below a zero most fits = All-nil (λ m. m < most)
 range_below a (suc n) most fits = All-cons (λ m. m < most) a (range_with_len (a + 1) n) (omega arith) (range_below (a + 1) n most (omega arith))
 
 module _ (kind : GroupKind) (priorities ranking : List ℕ) (is : IsRanking kind priorities ranking) where
+  -- as many members are ranked as have priorities
   pub length-ranking : length ranking ≡ length priorities
   length-ranking = length_permutation (range_with_len 0 (length priorities)) ranking is.all ∙ length-range 0 (length priorities)
 
+  -- only members of the group are ranked
   pub ranking_below : All (λ m. m < length priorities) ranking
   ranking_below = All-permutation (λ m. m < length priorities) (range_with_len 0 (length priorities)) ranking is.all (range_below 0 (length priorities) (length priorities) (omega arith))

@@ -13,6 +13,7 @@ pub refused_more : {S : Type 0} (delivers : S → List Content → ℕ → Resul
 refused_more delivers batch now member [] old mid new before handed = (new, rw (sym before) handed, refl)
 refused_more delivers batch now member (first ∷ tried) old mid new before handed = (before.0, before.1, refused_more delivers batch now member tried before.0 mid new before.2 handed)
 
+-- one member more that failed is reported after the others
 pub failed_more : (g : Group) (tried : List ℕ) (member now : ℕ) → all_failed g (tried ++ member ∷ []) now ≡ reported (all_failed g tried now) member false now
 failed_more g [] member now = refl
 failed_more g (first ∷ tried) member now = failed_more (reported g first false now) tried member now
@@ -30,6 +31,7 @@ pub record Failed (g at after : Group) (tried : List ℕ) (member now : ℕ) : T
   pub due : after.due ≡ at.due
   pub group : after ≡ record (all_failed g (tried ++ member ∷ []) now) { due = after.due }
 
+-- after the next member failed, the group is as after all that failed, but for which are due
 pub failed_next : (g before at after : Group) (tried : List ℕ) (member now : ℕ) → before ≡ record (all_failed g tried now) { due = before.due } → at ≡ record before { due = at.due } → after ≡ reported at member false now → Failed g at after tried member now
 failed_next g before at after tried member now so_far next is =
     let all = all_failed g tried now in

@@ -22,6 +22,7 @@ record Plain (events : List Content) (own : List Own) : Type 0 where
   pub taken : taken_by own ≡ events
   pub unstaged : commits own ≡ false
 
+-- what some calls took, and then further ones
 pub taken-append : (a b : List Own) → taken_by (a ++ b) ≡ taken_by a ++ taken_by b
 taken-append [] b = refl
 taken-append (o ∷ a) b = ap (λ (l : List Content). given_by o.call ++ l) (taken-append a b) ∙ sym (append_assoc (given_by o.call) (taken_by a) (taken_by b))
@@ -131,5 +132,6 @@ module _ {S : Type 0} (saw : List Own → State → Type 0) (seen : ℕ) (delive
       taken-append first rest ∙ ap (λ (l : List Content). l ++ taken_by rest) plain.taken ∙ ap taken_by ends.4 ∙ taken-append takes ending ∙ ap (λ (l : List Content). l ++ taken_by ending) (part.taken ∙ append-nil events) in
       rw all (by_stop token events ((earlier ++ first) ++ takes) ending ends.1 ends.6 last)
 
+  -- a turn that commits had delivered all that it took, with success
   pub delivered_first : (earlier own : List Own) → IsTurn saw seen delivers batch moment sink turn after earlier own → commits own ≡ true → delivers sink (taken_by own) moment (Ok tt) after
   delivered_first earlier own is staged = rw is.3 (by_begun earlier is.1 is.2 is.0 (plain_begin seen is.0 is.1 is.4) is.5 (rw is.3 at staged))

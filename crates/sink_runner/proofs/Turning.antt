@@ -30,6 +30,7 @@ gains_three a b c d P Q R T first second third join =
     let both : Gains b d Both = gains_then b c d Q R Both second third (λ earlier y z p q. (y, z, refl, p, q)) in
     gains_then a b d P Both T first both (λ earlier x l p q. subst (λ (m : List Own). T earlier (x ++ m)) (sym q.2) (join earlier x q.0 q.1 p q.3 q.4))
 
+-- of the calls that a face gained, what follows from P holds too
 pub gains_so : (before later : OwnCalls) (P Q : List Own → List Own → Type 0) → Gains before later P → ((earlier x : List Own) → P earlier x → Q earlier x) → Gains before later Q
 gains_so before later P Q gained weaker start front calls is = let a = gained start front calls is in (a.0, a.1, weaker calls a.0 a.2)
 
@@ -37,22 +38,27 @@ made_later : (seen later : ℕ) → seen ≤ later → (spent : Bool) (call : Ca
 made_later seen later up false call s own is = is
 made_later seen later up true call s own is = (is.0, omega (arith, is.1))
 
+-- the begin of a transaction of takes stays one when more calls were seen
 pub begun_later : (seen later : ℕ) → seen ≤ later → (begun : Result Token FaceRefused) (own : List Own) → IsTakeBegun seen begun own → IsTakeBegun later begun own
 begun_later seen later up begun own is = (is.0, is.1, made_later seen later up _ _ is.1 own is.2, is.3)
 
+-- a take stays one when more calls were seen
 pub take_later : (seen later : ℕ) → seen ≤ later → (token : Token) (taken : Result (Option Content) FaceRefused) (own : List Own) → IsTake seen token taken own → IsTake later token taken own
 take_later seen later up token taken own is = (is.0, is.1, made_later seen later up _ _ is.1 own is.2, is.3)
 
+-- the takes of several events stay so when more calls were seen
 pub taken_later : (seen later : ℕ) → seen ≤ later → (token : Token) (events : List Content) (own : List Own) → AreTaken seen token events own → AreTaken later token events own
 taken_later seen later up token [] own is = is
 taken_later seen later up token (event ∷ events) own is = (is.0, is.1, is.2, take_later seen later up token (Ok (Some event)) is.0 is.3, taken_later seen later up token events is.1 is.4)
 
+-- the end of a taking stays so when more calls were seen
 pub ends_later : (seen later : ℕ) → seen ≤ later → (token : Token) (batch : ℕ) (events : List Content) (stop : Result (Unit {0}) Turn) (own : List Own) → EndsTaking seen token batch events stop own → EndsTaking later token batch events stop own
 ends_later seen later up token batch events (Ok done) own (inl full) = inl full
 ends_later seen later up token batch events (Ok done) own (inr none) = inr (none.0, take_later seen later up token (Ok None) own none.1)
 ends_later seen later up token batch events (Err turn) own (inl refused) = inl (refused.0, (refused.1.0, take_later seen later up token (Err refused.1.0) own refused.1.1, refused.1.2))
 ends_later seen later up token batch events (Err turn) own (inr memory) = inr memory
 
+-- the takes up to a batch's size stay so when more calls were seen
 pub up_to_later : (seen later : ℕ) → seen ≤ later → (token : Token) (batch : ℕ) (events : List Content) (stop : Result (Unit {0}) Turn) (own : List Own) → AreTakenUpTo seen token batch events stop own → AreTakenUpTo later token batch events stop own
 up_to_later seen later up token batch events stop own is =
     (is.0, (is.1.0, is.1.1, is.1.2, taken_later seen later up token events is.1.0 is.1.3, ends_later seen later up token batch events stop is.1.1 is.1.4))
@@ -69,6 +75,7 @@ room_at batch events had has k (inl all) within = subst (HasRoom batch) (sym (ap
 room_at batch events had has k (inr (inl below)) within = had k below
 room_at batch events had has k (inr (inr above)) within = absurd (omega arith)
 
+-- one event more was taken while there was room
 pub room_more : (batch : ℕ) (events : List Content) (event : Content) → HadRoom batch events → HasRoom batch events → HadRoom batch (events ++ event ∷ [])
 room_more batch events event had has k below =
     let within : k ≤ length events = omega (arith, below, length-append events (event ∷ [])) in

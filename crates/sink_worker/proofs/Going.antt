@@ -8,6 +8,7 @@ use Rattle.sink_worker.specs.Workers.{SinkRan, taking}
 use Rattle.sink_worker.proofs.Rounding.{rounds_push}
 
 module _ {F S C : Type 0} (Turns : ℕ → Taking F S → Turn → Taking F S → Type 0) (Mends : Taking F S → Result Bool OpenCause → Taking F S → Type 0) (moments : C → Option (ℕ → ℕ)) where
+  -- a worker that had run has run after one round more and a pause
   pub goes_on : (old mid new last : SinkWorker F S C) (turn : Turn) → SinkRan (Turns old.batch) Mends moments old mid → Round (Turns mid.batch) Mends (taking moments mid) turn (taking moments new) → (new.channel ≡ mid.channel) × (new.batch ≡ mid.batch)
       → last.port ≡ new.port → last.sink ≡ new.sink → moments last.clock ≡ moments new.clock → last.channel ≡ new.channel → last.batch ≡ new.batch → SinkRan (Turns old.batch) Mends moments old last
   goes_on old mid new last turn ran round same port sink clock channel batch = record {

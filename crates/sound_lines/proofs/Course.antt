@@ -13,9 +13,11 @@ use Rattle.sound_lines.proofs.Others.{HasPuts, Spares, keeps}
 
 -- ---- fronts
 
+-- a front of a front of a history is a front of it
 pub front_of : (a b c : List Step) → IsPrefix (a ++ b) c → IsPrefix a c
 front_of a b c p = (b ++ p.0, sym (append_assoc a b p.0) ∙ p.1)
 
+-- a whole history is a front of itself
 pub whole_prefix : (h : List Step) → IsPrefix h h
 whole_prefix h = ([], append-nil h)
 
@@ -24,6 +26,7 @@ admits : (tells : Bool) (s : State) (front : List Step) (step : Step) (rest : Li
 admits tells s [] step rest run = run.0
 admits tells s (x ∷ front) step rest run = admits tells (after s x.call) front step rest run.1
 
+-- each call of a run was answered as the machine answers it in its state
 pub admitted : (tells : Bool) (s : State) (whole front : List Step) (step : Step) → IsRun tells s whole → IsPrefix (front ++ step ∷ []) whole → Admits tells (state_after s front) step.call
 admitted tells s whole front step run p =
     admits tells s front step p.0 (subst (λ (l : List Step). IsRun tells s l) (sym (sym (append_assoc front (step ∷ []) p.0) ∙ p.1)) run)
@@ -35,9 +38,11 @@ began_left pass token [] b is = absurd is
 began_left pass token (x ∷ a) b (inl here) = inl here
 began_left pass token (x ∷ a) b (inr later) = inr (began_left pass token a b later)
 
+-- who began a transaction has begun it also after more calls
 pub began_later : (pass : ℕ) (token : Token) (a b : List Step) → Began pass token a → Began pass token (a ++ b)
 began_later = began_left
 
+-- a pass whose last call began a transaction has begun it
 pub began_last : (pass : ℕ) (token : Token) (a : List Step) (step : Step) → step.pass ≡ pass → step.call ≡ BeginPut (Ok token) → Began pass token (a ++ step ∷ [])
 began_last pass token [] step by is = inl (by, is)
 began_last pass token (x ∷ a) step by is = inr (began_last pass token a step by is)
@@ -96,6 +101,7 @@ module _ (start : Opening) (whole : List Step) (calm : IsUndisturbed start whole
       let one : Grows (at front) (at next) = subst (λ (s : State). Grows (at front) s) (sym (state-push (opening start) front step)) (grows (at front) step.call (no_reopen front step (front_of next more whole q))) in
       subst (λ (l : List Step). Grows (at front) (at l)) as_next (grows_then (at front) (at next) (at (next ++ more)) one (grown next more q))
 
+  -- since the opening, an undisturbed history lets no number fall
   pub grown_all : (front : List Step) → IsPrefix front whole → Grows (opening start) (at front)
   grown_all front p = grown [] front p
 

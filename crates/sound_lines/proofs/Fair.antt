@@ -65,10 +65,12 @@ fair_more x e s (RollbackTake token ended) is = tt
 fair_more x e s (Checkpoint reply) is = tt
 fair_more x e s (Prune reply) is = tt
 
+-- calls stay fair where more were made before them
 pub all_more : (x e own : List Own) → AreFairOwn e own → AreFairOwn (x ++ e) own
 all_more x e [] all = tt
 all_more x e (o ∷ own) all = (fair_more x e o.before o.call all.0, subst (λ (l : List Own). AreFairOwn l own) (sym (append_assoc x e (o ∷ []))) (all_more x (e ++ o ∷ []) own all.1))
 
+-- fair calls after fair calls are fair
 pub fair-append : (e a b : List Own) → AreFairOwn e a → AreFairOwn (e ++ a) b → AreFairOwn e (a ++ b)
 fair-append e [] b f g = subst (λ (l : List Own). AreFairOwn l b) (append-nil e) g
 fair-append e (o ∷ a) b f g = (f.0, fair-append (e ++ o ∷ []) a b f.1 (subst (λ (l : List Own). AreFairOwn l b) (sym (append_assoc e (o ∷ []) a)) g))
@@ -83,12 +85,15 @@ fair_then a b f g = fair-append [] a b f (subst (λ (l : List Own). AreFairOwn l
 
 -- ---- one call
 
+-- one fair call alone is fair
 pub one_fair : (e : List Own) (s : State) (call : Call) (moment : ℕ) (own : List Own) → own ≡ one call s moment → IsFairOwn e s call → AreFairOwn e own
 one_fair e s call moment own is fair = subst (AreFairOwn e) (sym is) (fair, tt)
 
+-- no calls are fair
 pub none_fair : (e own : List Own) → own ≡ [] → AreFairOwn e own
 none_fair e own is = subst (AreFairOwn e) (sym is) tt
 
+-- a fair call stays so where it was not made, as no more calls are counted
 pub made_fair : (seen : ℕ) (b : Bool) (call : Call) (s : State) (e own : List Own) → IsMade seen b call s own → IsFairOwn e s call → AreFairOwn e own
 made_fair seen false call s e own made fair = one_fair e s call made.0 own made.1 fair
 made_fair seen true call s e own made fair = none_fair e own made.0
@@ -112,6 +117,7 @@ rolled_fair saw token earlier e own begun (inl (s, moment, is)) = one_fair e s (
 rolled_fair saw token earlier e own begun (inr (s, found, stale, inl none)) = none_fair e own none
 rolled_fair saw token earlier e own begun (inr (s, found, stale, inr (moment, is))) = one_fair e s (RollbackPut token false) moment own is begun
 
+-- how a batch ends, settled or in doubt, is fair
 pub ends_fair : (saw : List Own → State → Type 0) (seen : ℕ) (t : Ticket) (earlier e own : List Own) (sure : Bool) → Ends saw seen t earlier own sure → AreFairOwn e own
 ends_fair saw seen t earlier e own sure (s, found, ends) = by_ticket (settled s t) ends
   where
@@ -143,14 +149,17 @@ batch_fair saw seen events result earlier own (Ok token, s, begun, ending, is, m
 
 -- ---- what those who keep a channel call
 
+-- a mend is fair: it reopens only what is broken
 pub mend_fair : (OnDisk : Type 0) (saw : List Own → State → Type 0) (seen : ℕ) (result : Result Bool OpenCause) (earlier e own : List Own) → IsMend OnDisk saw seen result earlier own → AreFairOwn e own
 mend_fair OnDisk saw seen (Ok false) earlier e own is = none_fair e own is.0
 mend_fair OnDisk saw seen (Ok true) earlier e own (on, (reply, kept, s, found, broken, made, is)) = made_fair seen (is_spent_open reply) (Reopen (reopen_reply reply kept)) s e own made broken
 mend_fair OnDisk saw seen (Err cause) earlier e own (on, (reply, kept, s, found, broken, made, is)) = made_fair seen (is_spent_open reply) (Reopen (reopen_reply reply kept)) s e own made broken
 
+-- a checkpoint is fair, whatever it is answered
 pub check_fair : (seen : ℕ) (reply : Result (Unit {0}) CheckRefused) (e own : List Own) → IsCheck seen reply own → AreFairOwn e own
 check_fair seen reply e own (s, made) = made_fair seen (is_spent_check reply) (Checkpoint reply) s e own made tt
 
+-- a removal of old files is fair, whatever it is answered
 pub prune_fair : (seen : ℕ) (reply : Result ℕ PruneRefused) (e own : List Own) → IsPrune seen reply own → AreFairOwn e own
 prune_fair seen reply e own (s, made) = made_fair seen (is_spent_prune reply) (Prune reply) s e own made tt
 

@@ -34,9 +34,11 @@ opened_only s t rules life txn frame numbered = record {
   numbered = λ all. rw txn (numbered all);
 }
 
+-- where nothing was called, nothing fell
 pub grows_none : (s : State) → Grows s s
 grows_none s = record { rules = refl; life = refl; txn = omega arith; frame = omega arith; numbered = λ all. all }
 
+-- what grew, and then grew again, grew
 pub grows_then : (s t u : State) → Grows s t → Grows t u → Grows s u
 grows_then s t u f g = record {
   rules = g.rules ∙ f.rules;
@@ -86,6 +88,7 @@ stages s number (Some (Takes [])) = closes s number
 stages s number (Some (Puts (e ∷ es))) = opened_only s (stage number (Some (Puts (e ∷ es))) s) refl refl refl refl (λ all. numbered-without s.txn number s.opened all)
 stages s number (Some (Takes (n ∷ ns))) = opened_only s (stage number (Some (Takes (n ∷ ns))) s) refl refl refl refl (λ all. numbered-without s.txn number s.opened all)
 
+-- each call but a reopening only lets numbers grow
 pub grows : (s : State) (call : Call) → IsNoReopen call → Grows s (after s call)
 grows s (BeginPut (Ok token)) still = begins s (Puts [])
 grows s (BeginPut (Err e)) still = grows_none s

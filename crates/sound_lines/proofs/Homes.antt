@@ -27,6 +27,7 @@ pub record IsFairHome (n : ℕ) (v : View) : Type 0 where
   pub mine : has v.numbers n ≡ true
   pub fair : IsFairIn n v
 
+-- a number of the pass at home stays fair when the pass makes fair calls with one of its numbers
 pub home_goes : (number n : ℕ) (v w : View) → Goes number v w → IsFairHome n v → IsFairHome n w
 home_goes number n v w g is = record { mine = subst (λ (ns : List ℕ). has ns n ≡ true) (sym g.numbers) is.mine; fair = goes_on number n v w g is.mine is.fair }
 

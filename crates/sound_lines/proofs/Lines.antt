@@ -53,6 +53,7 @@ pub record Runs (t : Track) : Type 0 where
   pub later : List Own
   pub all : own_calls (t.number ∷ []) (opening t.start) t.whole ≡ t.own ++ later
 
+-- a track with all its calls made, in an undisturbed history, is a front of that history's own calls
 pub runs_ended : (t : Track) → IsCalm t → HasEnded t → Runs t
 runs_ended t calm ended = record { calm = calm; later = []; all = sym ended ∙ sym (append-nil t.own) }
 
@@ -72,6 +73,7 @@ AllRun ts = AllByRecursion Runs ts
 abbrev pub RefusesFor : FaceRefused → Track → Type 0
 RefusesFor cause t = IsForLimit t.start t.whole t.number cause
 
+-- a channel that refuses for a limit does so also by a track of its earlier calls
 pub at_behind : (cause : FaceRefused) (ts us : List Track) (place : ℕ) → Zips IsBehind ts us → AtPlace (RefusesFor cause) us place → AtPlace (RefusesFor cause) ts place
 at_behind cause [] us place zips is = from us zips is
   where
@@ -135,6 +137,7 @@ pub record Rows (ts us : List Track) (P : Type 0) : Type 0 where
   pub behind : Zips IsBehind ts us
   pub is : P
 
+-- where nothing was called, the tracks are as before
 pub rows_none : (ts us : List Track) (P : Type 0) → us ≡ ts → AllRun us → P → Rows ts us P
 rows_none ts us P same r is = record { runs = subst AllRun same r; behind = subst (λ (l : List Track). Zips IsBehind ts l) (sym same) (behind_self ts); is = is }
 
@@ -274,6 +277,7 @@ module _ {B : Type 0} (Means : Meaning B) (selector : Selector) (host : HostName
   abbrev pub Line : Into Track B → List ℕ → Verdict → Into Track B → Type 0
   Line = TakesLine Gave selector Means host
 
+  -- a line has a sound verdict where the histories of its channels are undisturbed
   pub line_sound : (old new : Into Track B) (line : List ℕ) (verdict : Verdict) → AllRun new.route.ports → Line old line verdict new → Rows old.route.ports new.route.ports (IsSound old.route.ports verdict)
   line_sound old new line verdict r (inl (moment, next, (made, intercepted, judged))) =
       judged_sound Means moment host selector made old.route.ports new.route.ports verdict
@@ -281,6 +285,7 @@ module _ {B : Type 0} (Means : Meaning B) (selector : Selector) (host : HostName
   line_sound old new line verdict r (inr (is, same)) =
       rows_none old.route.ports new.route.ports (IsSound old.route.ports verdict) (ap (λ (x : Into Track B). x.route.ports) same) r (subst (IsSound old.route.ports) (sym is) tt)
 
+  -- before some calls, whatever they are, the tracks are of the same histories
   pub called : (olds news : List Track) → AllRun news → Zips IsCalled olds news → Rows olds news (Unit {0})
   called [] [] r is = record { runs = tt; behind = tt; is = tt }
   called [] (new ∷ news) r is = absurd is
@@ -293,6 +298,7 @@ module _ {B : Type 0} (Means : Meaning B) (selector : Selector) (host : HostName
   called_where true old new answers r is = called old.route.ports new.route.ports r is
   called_where false old new answers r is = rows_none old.route.ports new.route.ports (Unit {0}) (ap (λ (x : Into Track B). x.route.ports) is.1) r tt
 
+  -- a verdict that is sound by later tracks is sound by earlier ones
   pub sound_behind : (ts us : List Track) (verdict : Verdict) → Zips IsBehind ts us → IsSound us verdict → IsSound ts verdict
   sound_behind ts us Taken zips is = tt
   sound_behind ts us (Refused place cause) zips is = at_behind cause ts us place zips is
@@ -332,6 +338,7 @@ module _ {B : Type 0} (Means : Meaning B) (selector : Selector) (host : HostName
         is = (first.is, verdicts_behind old.into.route.ports next.into.route.ports done next new others first.behind rest.is);
       }
 
+-- tracks of undisturbed histories, with all their calls made, all run
 pub all_run : (ts : List Track) → AllByRecursion IsCalm ts → AllByRecursion HasEnded ts → AllRun ts
 all_run [] calm ended = tt
 all_run (t ∷ ts) calm ended = (runs_ended t calm.0 ended.0, all_run ts calm.1 ended.1)
@@ -345,9 +352,11 @@ mended_called OnDisk (old ∷ olds) [] news is = absurd is
 mended_called OnDisk (old ∷ olds) (answer ∷ answers) [] is = absurd is
 mended_called OnDisk (old ∷ olds) (answer ∷ answers) (new ∷ news) is = ((is.0.0, is.0.1), mended_called (λ place. OnDisk (suc place)) olds answers news is.1)
 
+-- a line that a source took has a sound verdict
 pub line_is_sound : {B : Type 0} (Means : Meaning B) → LineIsSound Means
 line_is_sound Means selector host old new line verdict takes calm ended = (line_sound Means selector host old new line verdict (all_run new.route.ports calm ended) takes).is
 
+-- each line of a session has a sound verdict
 pub lines_are_sound : {B : Type 0} (Means : Meaning B) → LinesAreSound Means
 lines_are_sound Means max ack stops selector host old new end session calm ended =
     (all_sound Means selector host session.done old.store new.store (all_run new.store.into.route.ports calm ended) session.takes).is

@@ -92,10 +92,12 @@ module _ {B : Type 0} (Means : Meaning B) (selector : Selector) (host : HostName
             sound = (find_sound round.found old one.between mid one.serves.finds, rest.sound);
           }
 
+      -- each line of a listener's rounds has a sound verdict
       pub rounds_sound : (rounds : List Round) (old new : Serving (Into Track B)) → (ran : Rounds (Session rules Gave selector Means host) Mends rounds old new)
           → AllByRecursion IsCalm new.into.route.ports → AllByRecursion HasEnded new.into.route.ports → AreSoundRounds Means selector host rules Mends rounds old new ran
       rounds_sound rounds old new ran calm ended = (rounds_run rounds old new (all_run new.into.route.ports calm ended) ran).sound
 
+-- each line that links brought has a sound verdict where nothing failed
 pub links_are_sound : {B : Type 0} (Means : Meaning B) → LinksAreSound Means
 links_are_sound Means rules selector host rounds old new ran calm ended =
     rounds_sound Means selector host rules AreCalled (λ a answers b is. is) rounds old new ran calm ended

@@ -73,9 +73,11 @@ pub record HasPuts (token : Token) (events : List Content) (s : State) : Type 0 
   pub life : token.life ≡ s.life
   pub entry : entry_of token.number s.opened ≡ Some (Puts events)
 
+-- puts that a token shows are those of its transaction, in the same life
 pub has_puts : (token : Token) (events : List Content) (s : State) → puts_of s token ≡ Some events → HasPuts token events s
 has_puts token events s is = let its = puts_of-some s token events is in record { life = its.0; entry = its.1 }
 
+-- the puts of a transaction in the same life are those its token shows
 pub puts_are : (token : Token) (events : List Content) (s : State) → HasPuts token events s → puts_of s token ≡ Some events
 puts_are token events s has = puts_of-from s token events has.life has.entry
 

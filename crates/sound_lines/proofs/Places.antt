@@ -40,6 +40,7 @@ not_own number pass isnt same = from (eqb_tells number pass) isnt
     from (inl is) none = tt_ff (rw is.0 at none)
     from (inr other) none = other.1 (sym same)
 
+-- where the first own call of a pass stands among all calls
 pub next : (number : ℕ) (s : State) (h : List Step) (o : Own) (later : List Own) → own_calls (number ∷ []) s h ≡ o ∷ later → Next number s h o later
 next number s [] o later is = absurd (none_some o later is)
 next number s (step ∷ h) o later is = by_pass (has (number ∷ []) step.pass) refl is (next number (after s step.call) h o later)
@@ -92,6 +93,7 @@ pub record Found (number : ℕ) (s : State) (h from : List Step) (call : Call) (
   pub state : state_after s (from ++ others) ≡ before
   pub own : own_calls (number ∷ []) (state_after s ((from ++ others) ++ step ∷ [])) rest ≡ left
 
+-- where the next own call stands after a place in the history
 pub found : (number : ℕ) (s : State) (h : List Step) (call : Call) (before : State) (moment : ℕ) (left : List Own) (p : Place number s h (one call before moment ++ left)) → Found number s h p.front call before left
 found number s h call before moment left p =
     let n = next number (state_after s p.front) p.back (record { call = call; before = before; moment = moment }) left p.own in
@@ -112,6 +114,7 @@ found number s h call before moment left p =
 abbrev pub until : {number : ℕ} {s : State} {h from : List Step} {call : Call} {before : State} {left : List Own} → Found number s h from call before left → List Step
 until {from = from} f = from ++ f.others
 
+-- the calls up to one that was found are a front of the history
 pub within : (number : ℕ) (s : State) (h from : List Step) (call : Call) (before : State) (left : List Own) (f : Found number s h from call before left) → IsPrefix ((from ++ f.others) ++ f.step ∷ []) h
 within number s h from call before left f = (f.rest, f.whole)
 
@@ -128,5 +131,6 @@ pub past : (number : ℕ) (s : State) (h : List Step) (earlier left : List Own) 
 past number s h [] left p = p
 past number s h (o ∷ earlier) left p = past number s h earlier left (behind number s h p.front o.call o.before (earlier ++ left) (found number s h o.call o.before o.moment (earlier ++ left) p))
 
+-- before all calls, all own calls are still to come
 pub first_place : (number : ℕ) (s : State) (h : List Step) (left : List Own) → own_calls (number ∷ []) s h ≡ left → Place number s h left
 first_place number s h left is = record { front = []; back = h; whole = refl; own = is }

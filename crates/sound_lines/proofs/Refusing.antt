@@ -59,6 +59,7 @@ begin_limit s begin.Broken whole may = inr (begin_for s begin.Broken whole may)
 begin_limit s (begin.TooManyOpen held) whole may = inr (begin_for s (begin.TooManyOpen held) whole may)
 begin_limit s (begin.Spent counter) whole may = inr (begin_for s (begin.Spent counter) whole may)
 
+-- a begin that was not made was refused because no more calls are counted
 pub begin_out : (e : BeginRefused) → is_spent_begin (Err e) ≡ true → IsOutOfCalls (Begin e)
 begin_out begin.Broken is = absurd (tt_ff (sym is))
 begin_out (begin.TooManyOpen held) is = absurd (tt_ff (sym is))
@@ -110,6 +111,7 @@ put_limit s event (put.TxnFull many) whole some may = inr (inr (put_for s event 
 put_limit s event (put.TooLarge size) whole some may = inr (inr (put_for s event (put.TooLarge size) whole some may))
 put_limit s event (put.Full many) whole some may = inr (inr (put_for s event (put.Full many) whole some may))
 
+-- a put that was not made was refused because no more calls are counted
 pub put_out : (e : PutRefused) → is_spent_put (Err e) ≡ true → IsOutOfCalls (Put e)
 put_out put.NoMemory is = absurd (tt_ff (sym is))
 put_out put.DiskFault is = absurd (tt_ff (sym is))
@@ -161,6 +163,7 @@ stage_limit s event its e whole may = by_broken s.broken whole may
     by_broken true whole is = absurd (tt_ff whole)
     by_broken false whole is = room_for s.rules.kind s e is
 
+-- a stage that was not made was refused because no more calls are counted
 pub stage_out : (e : StageCause) → is_spent_stage (Err e) ≡ true → IsOutOfCalls (Stage e)
 stage_out stage.Stale is = absurd (tt_ff (sym is))
 stage_out stage.Broken is = absurd (tt_ff (sym is))

@@ -64,6 +64,7 @@ module _ (saw : List Own → State → Type 0) (seen : ℕ) where
         subst (AreFairOwn e) (sym is) (fair-append e takes ending (up_to_fair seen token batch events stop e takes are)
         (ending_fair token events moment sink stop turn after (earlier ++ takes) (e ++ takes) ending ends))
 
+    -- a turn of a sink is fair, however it ends
     pub turn_fair : (batch moment : ℕ) (sink : S) (turn : Turn) (after : S) (earlier e own : List Own) → IsTurn saw seen delivers batch moment sink turn after earlier own → AreFairOwn e own
     turn_fair batch moment sink turn after earlier e own (begun, first, rest, is, (reply, s, made, said), ends) =
         subst (AreFairOwn e) (sym is) (fair-append e first rest (made_fair seen (is_spent_begin reply) (BeginTake reply) s e first made tt)

@@ -49,6 +49,7 @@ self t fair = fair
 trans : (t u v : Track) → StaysFair t u → StaysFair u v → StaysFair t v
 trans t u v f g fair = g (f fair)
 
+-- a track stays fair when it makes fair calls
 pub calls_stay : (t u : Track) (more : List Own) → Calls t u more → AreFairOwn [] more → StaysFair t u
 calls_stay t u more calls fair = λ before. subst IsFairTrack (sym calls) (fair_then t.own more before fair)
 
@@ -95,6 +96,7 @@ module _ {B : Type 0} (Means : Meaning B) (selector : Selector) (host : HostName
       (then_ports turn.before.route.ports turn.behind.route.ports b.into.route.ports (one_line turn.before turn.behind line turn.verdict turn.takes)
       (mends_where (is_line_due (any_refused turn.first) turn.verdict) turn.behind b.into turn.last turn.mends))
 
+  -- the lines of a session leave the calls of a source's passes fair
   pub turns_stay : (done : List Handled) (a b : Feeding (Into Track B)) → TakesAll (TakesTurn (TakesLine Gave selector Means host) (MendedInto OnDisk)) a done b → Zips StaysFair a.into.route.ports b.into.route.ports
   turns_stay [] a b same = same_into a.into b.into (ap (λ (x : Feeding (Into Track B)). x.into) same)
   turns_stay (h ∷ done) a b (next, one, others) = then_ports a.into.route.ports next.into.route.ports b.into.route.ports (one_turn a next h.line h.verdict one) (turns_stay done next b others)
@@ -112,6 +114,7 @@ module _ {B : Type 0} (Means : Meaning B) (selector : Selector) (host : HostName
         (serves_stay StaysFair self trans Gave gave_stays Means selector host rules round.found a one.between one.serves)
         (mends_if (is_due a.due round.found) one.between.into b.into round.mends one.mends)
 
+    -- the rounds of a listener leave the calls of its passes fair
     pub rounds_stay : (rounds : List Round) (a b : Serving (Into Track B)) → Rounds (Session rules Gave selector Means host) (MendedInto OnDisk) rounds a b → Zips StaysFair a.into.route.ports b.into.route.ports
     rounds_stay [] a b same = same_into a.into b.into (ap (λ (x : Serving (Into Track B)). x.into) same)
     rounds_stay (round ∷ rounds) a b (next, one, others) = then_ports a.into.route.ports next.into.route.ports b.into.route.ports (one_round round a next one) (rounds_stay rounds next b others)
@@ -127,6 +130,7 @@ module _ {S : Type 0} (sink : Told S) (batch : ℕ) where
   mended_stays D true a b (result, (more, same, calls, mend)) = calls_stay a.from b.from more calls (mend_fair D (Stood a.from) (length a.from.whole) result a.from.own [] more mend)
   mended_stays D false a b same = λ fair. subst IsFairTrack (ap (λ (x : Taking Track S). x.from) (sym same)) fair
 
+  -- the rounds of a sink leave the calls of its pass fair
   pub sink_stays : (D : Type 0) (turns : List Turn) (a b : Taking Track S) → SinkRounds (Turned sink batch) (Mended D) turns a b → StaysFair a.from b.from
   sink_stays D [] a b same = λ fair. subst IsFairTrack (ap (λ (x : Taking Track S). x.from) (sym same)) fair
   sink_stays D (turn ∷ turns) a b (next, (between, one, due), others) =
@@ -146,6 +150,7 @@ module _ {S : Type 0} (sink : Told S) (batch : ℕ) where
   end_stays Emptied a b looked = looked_stays a b 0 looked
   end_stays (Stopped turn) a b (none, run) = run_stays a b turn run
 
+  -- the draining of a sink's channel leaves the calls of its pass fair
   pub drain_stays : (end : ChannelDrain) (a b : Taking Track S) → Drains (Turned sink batch) Looked end a b → StaysFair a.from b.from
   drain_stays end a b d = λ fair. end_stays end d.between b d.ends (deliveries_stay d.counts a d.between d.deliveries fair)
 
@@ -158,6 +163,7 @@ module _ (Checks : Track → Result (Unit {0}) CheckRefused → Track → Type 0
   keep_mended true t u (result, mend) = port_stays D t u result mend
   keep_mended false t u same = λ fair. subst IsFairTrack (sym same) fair
 
+  -- the rounds of a channel's keeper leave the calls of its pass fair
   pub keep_stays : (upkeeps : List Upkeep) (t u : Track) → RoundsBy Checks Prunes (MendedPort D) upkeeps t u → StaysFair t u
   keep_stays [] t u same = λ fair. subst IsFairTrack (sym same) fair
   keep_stays (upkeep ∷ upkeeps) t u (next, (between, (middle, check, prune), due), others) =

@@ -65,6 +65,7 @@ module _ {A B K : Type 0} (shares : List (EitherShared A B)) (channels : List �
     answered = t.answered;
   }
 
+  -- turns with mends of all channels are turns with mends by one of them
   pub turns_over : (done : List Handled) (a b : Feeding (Into Track K)) → TakesAll (TakesTurn Takes (MendedOver shares channels)) a done b → TakesAll (TakesTurn Takes (MendedInto (IsDiskOf shares channels share))) a done b
   turns_over [] a b same = same
   turns_over (h ∷ done) a b (next, one, others) = (next, turn_over a next h.line h.verdict one, turns_over done next b others)
@@ -188,6 +189,7 @@ module _ (finals : List Known) where
 
       -- ---- all
 
+      -- the calls with each worker's number are fair, in what the pass at home saw
       pub owners_fair : (jobs : Workers Known S N I O C K) (returned : Returned S N I O C) (settled : Settled S A B) → AreNew jobs → AreToldInFull sink Means moments heard talk shares homes finals jobs returned settled
           → AllByRecursion (IsFairOwner finals) (owners_of jobs)
       owners_fair jobs returned settled new full =

@@ -72,6 +72,7 @@ module _ {S C : Type 0} (sink : Told S) (moments : C → Option (ℕ → ℕ)) (
   numbers_all w old end back new did [] all = tt
   numbers_all w old end back new did (v ∷ ws) all = (numbers_at w old end back new did v.channel v.port.number all.0, numbers_all w old end back new did ws all.1)
 
+  -- draining the sinks' channels leaves the calls with a number of a pass at home fair
   pub drained_all : (ws : List (SinkWorker AtHome S C)) (old : List Known) (ends : List ChannelDrain) (backs : List S) (new : List Known) → HaveNumbers old ws → AreDrained (IsDrainedAt sink moments) ws old ends backs new
       → (place : ℕ) (d : Known) → IsFairPass n (get_or old place d) → IsFairPass n (get_or new place d)
   drained_all [] old [] [] new mine same place d is = subst (λ (l : List Known). IsFairPass n (get_or l place d)) (sym same) is
@@ -89,11 +90,13 @@ module _ {A B : Type 0} (disk : A → Opening → List Step → Type 0) (tells :
   kept_one laid pruned true s old new did is = fair_pass n old new did.later.number did.later.numbers is (kept_home disk tells moment laid pruned s n old.number old.view new.view is.own did.keeps is.fair)
   kept_one laid pruned false s old new same is = subst (IsFairPass n) (sym same) is
 
+  -- a checkpoint at the stop leaves the calls with a number of a pass at home fair
   pub kept_all : (laid : A → State → Type 0) (pruned : A → Type 0) (closes : List Bool) (old new : List Known) → AreKept (IsKept disk tells moment laid pruned) shares closes old new
       → (place : ℕ) (d : Known) → place < length old → IsFairPass n (get_or old place d) → IsFairPass n (get_or new place d)
   kept_all laid pruned closes old new did place d below =
       kept_one laid pruned (get_or closes place true) (get_or shares place share) (get_or old place d) (get_or new place d) (did.each place share true d d below)
 
+  -- a mend at the stop leaves the calls with a number of a pass at home fair
   pub mended_all : (old : List Known) (answers : List (Result Bool OpenCause)) (new : List Known) → AreMended (IsMended disk tells moment) shares old answers new
       → (answer : Result Bool OpenCause) (place : ℕ) (d : Known) → place < length old → IsFairPass n (get_or old place d) → IsFairPass n (get_or new place d)
   mended_all old answers new did answer place d below is =
@@ -105,6 +108,7 @@ module _ {A B : Type 0} (disk : A → Opening → List Step → Type 0) (tells :
 saw_fair : (n : ℕ) (p q : Known) → q ≡ record p { view = saw p.view p.view.seen } → IsFairPass n p → IsFairPass n q
 saw_fair n p q same is = subst (IsFairPass n) (sym same) (record { own = is.own; fair = record { mine = is.fair.mine; fair = is.fair.fair } })
 
+-- counting what each channel did leaves the calls with a number of a pass at home fair
 pub counted_all : (n : ℕ) (old : List Known) (before after : List (String Global × Counts)) (new : List Known) → AreCounted old before after new → (named : String Global × Counts) (place : ℕ) (d : Known) → place < length old
     → IsFairPass n (get_or old place d) → IsFairPass n (get_or new place d)
 counted_all n old before after new did named place d below = saw_fair n (get_or old place d) (get_or new place d) (did.each place d d named named below).pass

@@ -52,16 +52,19 @@ module _ {A B K : Type 0} (shares : List (EitherShared A B)) (channels : List �
   sound_called tracks (h ∷ done) a b (next, one, others) is = (is.0, sound_called tracks done next b others is.1)
 
 module _ (finals : List Known) (calm : AreUndisturbed finals) where
+  -- the histories of a worker's channels are undisturbed where those of all channels are
   pub ended_calm : (places : List ℕ) (passes : List Known) → AllByRecursion (λ (place : ℕ). place < length finals) places → AllByRecursion IsCalm (map ended (home_tracks (λ (p : Known). p) finals places passes))
   ended_calm [] passes below = tt
   ended_calm (place ∷ places) [] below = tt
   ended_calm (place ∷ places) (p ∷ passes) below = (calm place p below.0, ended_calm places passes below.1)
 
+  -- all calls of a worker's passes were made once the run ended
   pub ended_all : (places : List ℕ) (passes : List Known) → AllByRecursion HasEnded (map ended (home_tracks (λ (p : Known). p) finals places passes))
   ended_all [] passes = tt
   ended_all (place ∷ places) [] = tt
   ended_all (place ∷ places) (p ∷ passes) = (refl, ended_all places passes)
 
+-- each line of a dialogue has a sound verdict where nothing failed
 pub dialogues_are_sound : (A B I O : Type 0) → {C K : Type 0} (Means : Meaning K) (moments : C → Option (ℕ → ℕ)) → LinesAreSound Means → DialoguesAreSound A B I O Means moments
 dialogues_are_sound A B I O Means moments lines share shares finals job end old new d calm there =
     let served = d.served in
@@ -72,6 +75,7 @@ dialogues_are_sound A B I O Means moments lines share shares finals job end old 
     (ended_calm finals calm job.channels.items job.ports.items (recursion_from_All (λ (place : ℕ). place < length finals) job.channels.items there))
     (ended_all finals calm job.channels.items job.ports.items))
 
+-- each line of a listener's sessions has a sound verdict where nothing failed
 pub listeners_are_sound : (A B : Type 0) → {N C K : Type 0} (Means : Meaning K) (moments : C → Option (ℕ → ℕ)) (heard : N → Heard) → ListenersAreSound A B Means moments heard
 listeners_are_sound A B Means moments heard share shares finals job listener told calm there =
     rounds_sound Means job.selector job.host job.rules (MendedInto (IsDiskOf shares job.channels.items share))

@@ -161,6 +161,7 @@ module _ {D M S N I O C K : Type 0} (sink : Told S) (Means : Meaning K) (moments
       memory_breaks_none p.view.base.tells (opening p.view.base) p.view.seen
       (in_memory_at folders wish.place (share.Memory s) wish.limits p.view.base (λ off. off) kind begins) (left_run disk tells memory tells' (share.Memory s) p e is)
 
+  -- where the disks counted no fault, nothing failed in any channel
   pub nothing_failed : NothingFailed {O = O} sink Means moments heard talk told faults tells moment laid pruned memory tells'
   nothing_failed plans o m homes sinks returned settled a b old new opened some manned took home named settles full back steady place final below =
       subst (λ (q : Known). IsUndisturbed q.view.base q.view.seen) (sym same) (record {

@@ -154,6 +154,7 @@ pub record Lent {B : Type 0} (Means : Meaning B) (moment : ℕ) (host : HostName
   pub passes : Passes Means moment host links event made new
   pub back : new ≡ take n (new ++ drop (length new) links)
 
+-- an event passed a loan of all links, which were written back
 pub lent : {B : Type 0} (Means : Meaning B) (moment : ℕ) (host : HostNames) (n : ℕ) (links slice new : List (ChainLink B)) (event : Content) (made : Passed) → slice ≡ links → n ≡ length links → Passes Means moment host slice event made new → length new ≡ length slice → Lent Means moment host n links new event made
 lent {B} Means moment host n links slice new event made same n_is passes len = record {
   passes = subst (λ (l : List (ChainLink B)). Passes Means moment host l event made new) same passes;

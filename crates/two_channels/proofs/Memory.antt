@@ -7,5 +7,6 @@ use Rattle.channel_face.specs.Machine.{State}
 use Rattle.shared_channel.specs.Ports.{AreOwned}
 use Rattle.channel_lock.specs.Views.{View}
 
+-- a mend of a channel in memory calls nothing
 pub not_called : (v : View) (saw : List Own → State → Type 0) (seen : ℕ) → Gains (AreOwned v) (AreOwned v) (IsMend ⊥ saw seen (Ok false))
 not_called v saw seen start earlier own is = ([], (is.0, is.1, append-nil own ∙ is.2), (refl, λ on. absurd on))

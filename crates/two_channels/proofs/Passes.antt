@@ -15,6 +15,7 @@ use Rattle.two_channels.specs.declared.shared.EitherShared.TheVariants as share
 unseen : (p q : Known) → (q.table_id ≡ p.table_id) × (q.number ≡ p.number) → q.view ≡ p.view → Later p q
 unseen p q same view = subst (λ (x : Known). Later p x) (λ i. record { table_id = sym same.0 i; number = sym same.1 i; view = sym view i }) (later_none p)
 
+-- the same pass after a mend
 pub mend_later : {A B : Type 0} (disk : A → Opening → List Step → Type 0) (tells : A → Bool) (moment : A → ℕ) (s : EitherShared A B) (p q : Known) (result : Result Bool OpenCause) → (q.table_id ≡ p.table_id) × (q.number ≡ p.number) → MendsIn disk tells moment s p.view p.number result q.view → Later p q
 mend_later disk tells moment (share.Disk s) p q result same m = later p q (λ earlier more. Unit {0}) same (mended_goes disk tells moment p.view q.view p.number result m)
 mend_later disk tells moment (share.Memory s) p q result same m = unseen p q same m.0

@@ -30,6 +30,7 @@ enough s copies all settled room kept shadow few =
     let staged : length s.staged ≡ length (drop settled all) = ap (λ (l : List Entry). length l) (sym shadow.staged) in
     omega (arith, few, staged, length-drop settled all, shadow.within)
 
+-- after a reopening nothing is open or staged, and the journal has what was settled and what was kept
 pub shadow_reopened : (s s' : State) (copies : List (ℕ × Entry)) (all : List Entry) (settled room kept : ℕ) → IsShadow s copies all settled room → kept ≤ length s.staged → s'.opened ≡ [] → s'.staged ≡ [] → IsShadow s' [] (take (settled + kept) all) (settled + kept) room
 shadow_reopened s s' copies all settled room kept shadow few opened staged =
     let within : settled + kept ≤ length all = enough s copies all settled room kept shadow few in

@@ -28,6 +28,7 @@ pub record PutAt (s s' : State) (copies : Opened) (number place : ℕ) (event : 
 put_state : (s : State) (number : ℕ) (puts : Option (List Content)) (events : List Content) (event : Content) (spilled : Bool) → spilled ≡ false → puts ≡ Some events → add_put (settle_if spilled s) number puts event ≡ record s { opened = with_entry number (Puts (events ++ event ∷ [])) s.opened }
 put_state s number puts events event spilled none is = rw (none, is) refl
 
+-- a put that did not spill added its event to the transaction found among the copies
 pub put_found : (s s' : State) (token : Token) (event : Content) (done : PutDone) (copies : Opened) (number place : ℕ) → copies ≡ s.opened → number ≡ token.number → Moves true s (Put token event (Ok done)) s' → done.spilled ≡ false → (entry : Entry) × IsAt copies number place entry → PutAt s s' copies number place event
 put_found s s' token event done copies number place same is moves none found =
     let allowed = put_allowed s (puts_of s token) event moves.admitted.0 in
@@ -55,6 +56,7 @@ take_state s number taken takes numbers (item ∷ items) spilled none is first =
     let same : item.0 ≡ taken = cc in
     rw (none, is, same) refl
 
+-- a take that did not spill added the first free number to the transaction found among the copies
 pub take_found : (s s' : State) (token : Token) (given : Taken) (copies : Opened) (number place taken : ℕ) → copies ≡ s.opened → number ≡ token.number → Moves true s (Take token (Ok given)) s' → given.spilled ≡ false → first_number (free s) ≡ Some taken → (entry : Entry) × IsAt copies number place entry → TakeAt s s' copies number place taken
 take_found s s' token given copies number place taken same is moves none first found =
     let allowed = take_allowed s (takes_of s token) moves.admitted.0 in
@@ -72,6 +74,7 @@ none_taken s number None [] spilled none first = rw none refl
 none_taken s number (Some numbers) [] spilled none first = rw none refl
 none_taken s number takes (item ∷ items) spilled none first = absurd (cc)
 
+-- a take that was taken back for want of memory is counted as an attempt and leaves the state
 pub take_back : (old : Counted) (new : Counted) (token : Token) (given : Taken) (mid : Counted) → Makes old (Take token (Ok given)) mid → given.spilled ≡ false → new.state ≡ old.state → new.tally ≡ mid.tally → Makes old (Take token (Err TakeNo.NoMemory)) new
 take_back old new token given mid makes none state tally =
     record {

@@ -134,10 +134,12 @@ held_next numbers (x ∷ items) (suc place) item is among none =
     subst (λ (i : ℕ). without numbers (take i (x ∷ items)) ≡ []) further
     (none_left (is_among numbers x.0) (is_among numbers x.0) x (without numbers (take place items)) (without numbers (take (place + 1) items)) (λ h. h) (held_next numbers items place item is among) none)
 
+-- no item stands at the end of the list
 pub none_beyond : (items : List (ℕ × Content)) (item : ℕ × Content) → slice_get items (length items) ≡ Some item → ⊥
 none_beyond [] item is = absurd (cc)
 none_beyond (x ∷ items) item is = none_beyond items item is
 
+-- an item stands at each place before the end
 pub is_there : (items : List (ℕ × Content)) (place : ℕ) → place < length items → (item : ℕ × Content) × (slice_get items place ≡ Some item)
 is_there [] place lt = absurd (omega (arith, lt))
 is_there (x ∷ items) zero lt = (x, refl)

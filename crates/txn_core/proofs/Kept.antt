@@ -21,14 +21,17 @@ use Rattle.channel_face.proofs.Within.{left_size, front_size}
 use Rattle.txn_core.specs.Sound.{AreHeld}
 use Rattle.txn_core.proofs.Fronts.{held_begun, held_set, held_staged}
 
+-- where a begin is not refused, one transaction more may be open, and a number is left for it
 pub few_opened : (s : State) → begin_refusal s ≡ None → (s.broken ≡ false) × (length s.opened < 1024) × (s.txn < 2 ^ 64 - 1)
 few_opened s allowed = grind (arith, nat_tests)
 
+-- a transaction that did nothing puts no event
 pub no_puts : (entry : Entry) → size_of_entry entry ≡ 0 → size_put entry ≡ 0
 no_puts (Puts []) none = refl
 no_puts (Puts (e ∷ events)) none = absurd (omega (arith, none))
 no_puts (Takes numbers) none = refl
 
+-- the lists stay sound where a transaction begins
 pub begun : (s : State) (b : ℕ × Entry) (o p i r r' f : ℕ) → IsSound s o p i r f → begin_refusal s ≡ None → size_of_entry b.1 ≡ 0 → length s.staged + (length s.opened + 1) ≤ r' → IsSound (record s { opened = s.opened ++ b ∷ []; txn = s.txn + 1 }) o p i r' f
 begun s b o p i r r' f sound allowed none room =
     let few = few_opened s allowed in
@@ -53,9 +56,11 @@ room_left : (k : Kind) (s : State) (event : Content) → size_refusal k s event 
 room_left OnFile s event none is = grind (arith, nat_tests)
 room_left InMemory s event none is = absurd (cc)
 
+-- where a put is not refused, the transaction has room and the event's size is allowed
 pub put_allows : (s : State) (events : List Content) (event : Content) → put_refusal s (Some events) event ≡ None → (s.broken ≡ false) × (length events < s.rules.limits.txn_capacity) × (size_refusal s.rules.kind s event ≡ None)
 put_allows s events event allowed = grind (arith, nat_tests)
 
+-- the lists stay sound where an event is put
 pub put_added : (s : State) (number place : ℕ) (events : List Content) (event : Content) (o p i r i' f : ℕ) → IsSound s o p i r f → IsAt s.opened number place (Puts events) → put_refusal s (Some events) event ≡ None → length s.items + (o + p + 1) ≤ i'
     → IsSound (record s { opened = slice_set s.opened place (number, Puts (events ++ event ∷ [])) }) (o + 1) p i' r f
 put_added s number place events event o p i r i' f sound at allowed room =
@@ -135,10 +140,12 @@ staged_one s number place entry o o' p p' i r r' f sound at fewer more room fits
       front = held_staged s.opened place (number, entry) s.staged (take f s.items) at.item sound.front;
     }
 
+-- the frame's number rises by one where something was staged
 pub frame_after : (staged : List Entry) (frame : ℕ) → (cond (is_none_staged staged) frame (frame + 1)) ≡ frame + one_if_staged staged
 frame_after [] frame = omega arith
 frame_after (e ∷ staged) frame = refl
 
+-- the lists stay sound where all that was staged is settled
 pub settled_all : (s : State) (o p i i' r f : ℕ) → IsSound s o p i r f → i ≤ i' → IsSound (settle s) o 0 i' r 0
 settled_all s o p i i' r f sound room =
     let fewer : length (left (base_of s) s.staged) ≤ length s.items + length (put_events s.staged) = left_size (base_of s) s.staged in
@@ -157,18 +164,22 @@ settled_all s o p i i' r f sound room =
       front = refl;
     }
 
+-- one transaction's puts are not more than all open ones
 pub puts_within : (s : State) (number place : ℕ) (entry : Entry) (o p i r f : ℕ) → IsSound s o p i r f → IsAt s.opened number place entry → size_put entry ≤ o
 puts_within s number place entry o p i r f sound at = omega (arith, sound.open_puts_are, puts_size-remove s.opened place (number, entry) at.item)
 
+-- who stages what a transaction did moves it from the open ones to the staged ones
 pub stage_some : (s : State) (number : ℕ) (entry : Entry) → 0 < size_of_entry entry → stage number (Some entry) s ≡ record s { opened = without_entry number s.opened; staged = s.staged ++ entry ∷ [] }
 stage_some s number (Puts []) some = absurd (omega (arith, some))
 stage_some s number (Puts (e ∷ events)) some = refl
 stage_some s number (Takes []) some = absurd (omega (arith, some))
 stage_some s number (Takes (n ∷ numbers)) some = refl
 
+-- where a take is not refused, the channel is not broken and the transaction has room
 pub take_allows : (s : State) (numbers : List ℕ) → take_refusal s (Some numbers) ≡ None → (s.broken ≡ false) × (length numbers < s.rules.limits.txn_capacity)
 take_allows s numbers allowed = grind (arith, nat_tests)
 
+-- the lists stay sound where a number is taken
 pub take_added : (s : State) (number place : ℕ) (numbers : List ℕ) (taken : ℕ) (o p i r f f' : ℕ) → IsSound s o p i r f → IsAt s.opened number place (Takes numbers) → take_refusal s (Some numbers) ≡ None
     → AreHeld (slice_set s.opened place (number, Takes (numbers ++ taken ∷ []))) s.staged (take f' s.items)
     → IsSound (record s { opened = slice_set s.opened place (number, Takes (numbers ++ taken ∷ [])) }) o p i r f'
@@ -199,6 +210,7 @@ front_fits s k o p i r f sound =
     let few : length (put_events (take k s.staged)) ≤ length (put_events s.staged) = front_size k s.staged in
     (omega (arith, sound.events, sound.staged_puts_are, few), omega (arith, sound.numbers, few))
 
+-- the lists are sound after a reopening that keeps a first part of what was staged
 pub restarted : (s new : State) (k : ℕ) (ends : List ℕ) (o p i i' r r' f : ℕ) → IsSound s o p i r f → i ≤ i'
     → new ≡ record { rules = s.rules; items = left (record { items = s.items; first = s.first }) (take k s.staged); first = next (record { items = s.items; first = s.first }) (take k s.staged); txn = s.txn; opened = []; staged = []; broken = false; life = s.life + 1; frame = 1; ends = ends }
     → IsSound new 0 0 i' r' 0
@@ -221,15 +233,18 @@ restarted s new k ends o p i i' r r' f sound room is =
       front = refl;
     })
 
+-- there are as many entries as open transactions
 pub length-entries : (opened : List (ℕ × Entry)) → length (entries opened) ≡ length opened
 length-entries [] = refl
 length-entries (o ∷ opened) = omega (arith, length-entries opened)
 
+-- the entries of a first part of the list are the first ones
 pub take-entries : (k : ℕ) (opened : List (ℕ × Entry)) → entries (take k opened) ≡ take k (entries opened)
 take-entries zero opened = refl
 take-entries (suc k) [] = refl
 take-entries (suc k) (o ∷ opened) = ap (λ (l : List Entry). o.1 ∷ l) (take-entries k opened)
 
+-- the entries after one transaction more was staged
 pub staged_last : (staged staged' : List (ℕ × Entry)) (last : ℕ × Entry) (number : ℕ) (entry : Entry) → staged' ≡ staged ++ last ∷ [] → last ≡ (number, entry) → entries staged' ≡ entries staged ++ entry ∷ []
 staged_last staged staged' last number entry is same =
     ap (λ (l : List (ℕ × Entry)). entries l) is ∙ (entries-append staged (last ∷ []) ∙ ap (λ (o : ℕ × Entry). entries staged ++ o.1 ∷ []) same)

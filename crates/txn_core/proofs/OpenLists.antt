@@ -14,6 +14,7 @@ rest_before o opened number place before k x below is = before (suc k) x (omega 
 itself : (n : ℕ) → (n == n) ≡ true
 itself n = grind (arith, nat_tests)
 
+-- the first place with a number is where its transaction stands
 pub found : (opened : List (ℕ × Entry)) (number place : ℕ) (entry : Entry) → NoneBefore opened number place → slice_get opened place ≡ Some (number, entry) → IsAt opened number place entry
 found [] number place entry before is = absurd (cc)
 found (o ∷ opened) number zero entry before is =
@@ -38,12 +39,14 @@ found (o ∷ opened) number (suc place) entry before is =
       changed = λ e. rw not_here (ap (λ (l : List (ℕ × Entry)). o ∷ l) (it.changed e));
     }
 
+-- a list that was searched to its end has no entry for the number
 pub none : (opened : List (ℕ × Entry)) (number : ℕ) → NoneBefore opened number (length opened) → entry_of number opened ≡ None
 none [] number before = refl
 none (o ∷ opened) number before =
     let not_here : (o.0 == number) ≡ false = before zero o (omega arith) refl in
     rw not_here (none opened number (rest_before o opened number (length opened) before))
 
+-- the search for a number goes on by one place
 pub one_more : (opened : List (ℕ × Entry)) (number place : ℕ) (o : ℕ × Entry) → NoneBefore opened number place → slice_get opened place ≡ Some o → (o.0 == number) ≡ false → NoneBefore opened number (place + 1)
 one_more opened number place o before is not_here k x below at = from (grind arith)
   where
@@ -59,6 +62,7 @@ same_entry opened number place m entry e at is =
     some_same : (a b : ℕ × Entry) → Some a ≡ Some b → a ≡ b
     some_same a b h = cc
 
+-- the puts that stand at a place are those of the token
 pub puts_at : (s : State) (token : Token) (place held : ℕ) → token.life ≡ s.life → (entry : Entry) × IsAt s.opened token.number place entry → (m : ℕ) × (events : List Content) × (slice_get s.opened place ≡ Some (m, Puts events)) × (held ≡ length events)
     → (events : List Content) × IsAt s.opened token.number place (Puts events) × (puts_of s token ≡ Some events) × (held ≡ length events)
 puts_at s token place held life x y =
@@ -67,6 +71,7 @@ puts_at s token place held life x y =
     let alive : (token.life == s.life) ≡ true = ap (λ (n : ℕ). n == s.life) life ∙ itself s.life in
     (events, at, rw alive (ap as_puts at.entry_is), y.3)
 
+-- the numbers taken that stand at a place are those of the token
 pub takes_at : (s : State) (token : Token) (place held : ℕ) → token.life ≡ s.life → (entry : Entry) × IsAt s.opened token.number place entry → (m : ℕ) × (numbers : List ℕ) × (slice_get s.opened place ≡ Some (m, Takes numbers)) × (held ≡ length numbers)
     → (numbers : List ℕ) × IsAt s.opened token.number place (Takes numbers) × (takes_of s token ≡ Some numbers) × (held ≡ length numbers)
 takes_at s token place held life x y =

@@ -19,6 +19,7 @@ none_first : (b : Bool) (e : Entry) (rest : Option Entry) → cond b (Some e) re
 none_first true e rest is = absurd (cc)
 none_first false e rest is = (refl, is)
 
+-- without a transaction that is not open the list stays
 pub none_without : (number : ℕ) (opened : Opened) → entry_of number opened ≡ None → without_entry number opened ≡ opened
 none_without number [] none = refl
 none_without number (o ∷ opened) none =
@@ -45,6 +46,7 @@ moved_length number (o ∷ opened) = moved_step (o.0 == number) o opened (withou
 pub quiet_call : (old new : Journaled) (call : Call) → Makes old.counted call new.counted → new.journal ≡ old.journal → kept_by old.counted.state call ≡ [] → Journals old call new
 quiet_call old new call makes same none = record { makes = makes; journal = same ∙ (sym (append-nil old.journal) ∙ ap (λ (l : List Entry). old.journal ++ l) (sym none)) }
 
+-- the copies stay those of the state where a transaction is closed in both
 pub shadow_closed : (s s' : State) (copies copies' : Opened) (all : List Entry) (settled room number : ℕ) → IsShadow s copies all settled room → copies' ≡ without_entry number copies → s'.opened ≡ without_entry number s.opened → s'.staged ≡ s.staged → IsShadow s' copies' all settled room
 shadow_closed s s' copies copies' all settled room number shadow ended opened staged =
     let fewer = moved_length number copies in
@@ -63,6 +65,7 @@ staged_so s number (Some (Takes [])) is = rw (append-nil s.staged) refl
 staged_so s number (Some (Puts (e ∷ events))) is = refl
 staged_so s number (Some (Takes (n ∷ numbers))) is = refl
 
+-- the copies stay those of the state where a transaction is staged in both
 pub shadow_staged : (s s' : State) (copies copies' : Opened) (all all' : List Entry) (settled room room' number : ℕ) → IsShadow s copies all settled room → copies' ≡ without_entry number copies → all' ≡ all ++ staged_more (entry_of number copies) → room ≤ room'
     → s' ≡ stage number (entry_of number s.opened) s → IsShadow s' copies' all' settled room'
 shadow_staged s s' copies copies' all all' settled room room' number shadow ended added more is =
@@ -79,6 +82,7 @@ shadow_staged s s' copies copies' all all' settled room room' number shadow ende
       few = omega (arith, shadow.few, fewer);
     })
 
+-- where a put is not refused, the transaction is one of puts
 pub put_allowed : (s : State) (puts : Option (List Content)) (event : Content) → put_refusal s puts event ≡ None → (events : List Content) × (puts ≡ Some events)
 put_allowed s None event allowed = absurd (cc)
 put_allowed s (Some events) event allowed = (events, refl)

@@ -12,23 +12,29 @@ use Rattle.txn_core.specs.Sound.{puts_in, takes_in, without_puts, one_if_staged}
 abbrev pub Opened : Type 0
 Opened = List (ℕ × Entry)
 
+-- the numbers taken by the first entry and the others
 pub taken-cons : (e : Entry) (rest : List Entry) → taken_numbers (e ∷ rest) ≡ takes_in e ++ taken_numbers rest
 taken-cons (Puts events) rest = refl
 taken-cons (Takes numbers) rest = refl
 
+-- the events put by the first entry and the others
 pub put-cons : (e : Entry) (rest : List Entry) → put_events (e ∷ rest) ≡ puts_in e ++ put_events rest
 put-cons (Puts events) rest = refl
 put-cons (Takes numbers) rest = refl
 
+-- a number is taken by the first entry or by the others
 pub among_entry : (e : Entry) (rest : List Entry) (n : ℕ) → is_among (taken_numbers (e ∷ rest)) n ≡ (is_among (takes_in e) n || is_among (taken_numbers rest) n)
 among_entry e rest n = ap (λ (l : List ℕ). is_among l n) (taken-cons e rest) ∙ or_among (takes_in e) (taken_numbers rest) n
 
+-- what the first transaction took is among what all took
 pub among_here : (o : ℕ × Entry) (rest : Opened) (n : ℕ) → is_among (takes_in o.1) n ≡ true → is_among (taken_numbers (entries (o ∷ rest))) n ≡ true
 among_here o rest n here = rw (among_entry o.1 (entries rest) n, here) refl
 
+-- what the first transaction did not take is sought among the others
 pub among_later : (o : ℕ × Entry) (rest : Opened) (n : ℕ) → is_among (takes_in o.1) n ≡ false → is_among (taken_numbers (entries (o ∷ rest))) n ≡ is_among (taken_numbers (entries rest)) n
 among_later o rest n here = rw (among_entry o.1 (entries rest) n, here) refl
 
+-- where the list of the staged ones has one, something is staged
 pub some_staged : (staged : Opened) → 0 < length staged → one_if_staged (entries staged) ≡ 1
 some_staged [] some = absurd (omega (arith, some))
 some_staged (o ∷ staged) some = refl
@@ -37,14 +43,17 @@ by_test : (b : Bool) (item : ℕ × Content) (xs ys : List (ℕ × Content)) →
 by_test true item xs ys same = same
 by_test false item xs ys same = ap (λ (l : List (ℕ × Content)). item ∷ l) same
 
+-- keeping the items that were not taken leaves what is left
 pub without_filter : (numbers : List ℕ) (items : List (ℕ × Content)) → filter (λ item. not (is_among numbers item.0)) items ≡ without numbers items
 without_filter numbers [] = refl
 without_filter numbers (item ∷ items) = by_test (is_among numbers item.0) item (filter (λ item. not (is_among numbers item.0)) items) (without numbers items) (without_filter numbers items)
 
+-- where no number was taken, all items are left
 pub none_taken : (numbers : List ℕ) (items : List (ℕ × Content)) → capped (length numbers) ≡ 0 → without numbers items ≡ items
 none_taken [] items none = without_none items
 none_taken (number ∷ numbers) items none = absurd (omega (arith, none))
 
+-- from a place on stands what is at the place, then the rest
 pub drop_at : {A : Type 0} (es : List A) (place : ℕ) (e : A) → slice_get es place ≡ Some e → drop place es ≡ e ∷ drop (place + 1) es
 drop_at [] place e is = absurd (cc)
 drop_at (x ∷ es) zero e is = (let same : x ≡ e = cc in ap (λ (y : _). y ∷ es) same)
@@ -74,9 +83,11 @@ takes_stay (x ∷ es) (suc place) o is =
 pub puts_from : (es : Opened) (place : ℕ) (o : ℕ × Entry) → slice_get es place ≡ Some o → put_events (entries (drop place es)) ≡ puts_in o.1 ++ put_events (entries (drop (place + 1) es))
 puts_from es place o is = ap (λ (l : Opened). put_events (entries l)) (drop_at es place o is) ∙ put-cons o.1 (entries (drop (place + 1) es))
 
+-- how many puts there are from a place on
 pub puts_from_length : (es : Opened) (place : ℕ) (o : ℕ × Entry) → slice_get es place ≡ Some o → length (put_events (entries (drop place es))) ≡ length (puts_in o.1) + length (put_events (entries (drop (place + 1) es)))
 puts_from_length es place o is = ap (λ (l : List Content). length l) (puts_from es place o is) ∙ length-append (puts_in o.1) (put_events (entries (drop (place + 1) es)))
 
+-- the later transactions keep their puts where one place's were moved out
 pub rest_same : (es es' : Opened) (place : ℕ) (o : ℕ × Entry) → es' ≡ slice_set es place (o.0, without_puts o.1) → put_events (entries (drop (place + 1) es')) ≡ put_events (entries (drop (place + 1) es))
 rest_same es es' place o is = ap (λ (l : Opened). put_events (entries (drop (place + 1) l))) is ∙ ap (λ (l : Opened). put_events (entries l)) (drop_set es place (o.0, without_puts o.1))
 
@@ -88,6 +99,7 @@ moved_one es es' items items' number number' place o is items_are number_is es_a
     let rest : List Content = put_events (entries (drop (place + 1) es)) in
     rw (items_are, number_is, rest_same es es' place o es_are) (append_assoc items (numbered number here) (numbered (number + length here) rest) ∙ ap (λ (l : List (ℕ × Content)). items ++ l) (sym (numbered-append number here rest) ∙ ap (λ (l : List Content). numbered number l) (sym (puts_from es place o is))))
 
+-- an item that was not taken is the next one that is left
 pub without_next : (numbers : List ℕ) (items : List (ℕ × Content)) (place : ℕ) (item : ℕ × Content) → slice_get items place ≡ Some item → is_among numbers item.0 ≡ false → without numbers (drop place items) ≡ item ∷ without numbers (drop (place + 1) items)
 without_next numbers items place item at not_taken = rw (drop_at items place item at, not_taken) refl
 
@@ -100,5 +112,6 @@ none_behind [] (suc place) is = absurd (omega (arith, is))
 none_behind (x ∷ es) zero is = absurd (omega (arith, is))
 none_behind (x ∷ es) (suc place) is = none_behind es place (omega (arith, is))
 
+-- after the last transaction no more takes are counted
 pub takes_ended : (es : Opened) (place count : ℕ) → place ≡ length es → count < 2 ^ 64 → capped (count + length (taken_numbers (entries (drop place es)))) ≡ count
 takes_ended es place count is within = ap (λ (n : ℕ). capped (count + n)) (none_behind es place is) ∙ capped_small count (2 ^ 64 - 1) (omega (arith, within))

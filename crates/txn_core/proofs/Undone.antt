@@ -12,6 +12,7 @@ use Rattle.txn_core.proofs.Fronts.{held_set}
 abbrev pub Opened : Type 0
 Opened = List (ℕ × Entry)
 
+-- what was set at a place is found there
 pub set_got : (xs : Opened) (i : ℕ) (y : ℕ × Entry) → i < length xs → slice_get (slice_set xs i y) i ≡ Some y
 set_got [] i y within = absurd (omega (arith, within))
 set_got (x ∷ xs) zero y within = refl
@@ -27,6 +28,7 @@ pub record WasAdded (before opened : Opened) (number place : ℕ) (entry longer 
   pub item : slice_get opened place ≡ Some (number, longer)
   pub back : slice_set opened place (number, entry) ≡ before
 
+-- where an entry was replaced by another, setting the old one gives the list before
 pub was_added : (before opened : Opened) (number place : ℕ) (entry longer : Entry) → IsAt before number place entry → opened ≡ with_entry number longer before → WasAdded before opened number place entry longer
 was_added before opened number place entry longer at is =
     let set : opened ≡ slice_set before place (number, longer) = is ∙ at.changed longer in
@@ -41,6 +43,7 @@ longer-unset most [] i x y is here all = tt
 longer-unset most (z ∷ xs) zero x y is here all = let same : z ≡ x = cc in (subst (λ (o : ℕ × Entry). size_of_entry o.1 ≤ most) (sym same) here, all.1)
 longer-unset most (z ∷ xs) (suc i) x y is here all = (all.0, longer-unset most xs i x y is here all.1)
 
+-- the lists are sound after a put is taken back
 pub put_undone : (s : State) (before : Opened) (number place : ℕ) (events : List Content) (event : Content) (o o' p i r f : ℕ) → IsSound s o p i r f → IsAt before number place (Puts events) → s.opened ≡ with_entry number (Puts (events ++ event ∷ [])) before → o' + 1 ≡ o → IsSound (record s { opened = before }) o' p i r f
 put_undone s before number place events event o o' p i r f sound at is one =
     let longer : Entry = Puts (events ++ event ∷ []) in
@@ -65,12 +68,14 @@ put_undone s before number place events event o o' p i r f sound at is one =
       front = subst (λ (l : Opened). AreHeld l s.staged (take f s.items)) was.back (held_set s.opened place (number, longer) (number, Puts events) s.staged (take f s.items) was.item (λ n h. h) sound.front);
     }
 
+-- where a put can be taken back, at least one open put is counted
 pub some_put : (s : State) (before : Opened) (number place : ℕ) (events : List Content) (event : Content) (o p i r f : ℕ) → IsSound s o p i r f → IsAt before number place (Puts events) → s.opened ≡ with_entry number (Puts (events ++ event ∷ [])) before → 1 ≤ o
 some_put s before number place events event o p i r f sound at is =
     let longer : Entry = Puts (events ++ event ∷ []) in
     let set : s.opened ≡ slice_set before place (number, longer) = is ∙ at.changed longer in
     omega (arith, sound.open_puts_are, ap (λ (l : Opened). puts_size l) set, puts_size-set before place (number, Puts events) (number, longer) at.item, length-append events (event ∷ []))
 
+-- the lists are sound after a take is taken back
 pub take_undone : (s : State) (before : Opened) (number place : ℕ) (numbers : List ℕ) (taken : ℕ) (o p i r f : ℕ) → IsSound s o p i r f → IsAt before number place (Takes numbers) → s.opened ≡ with_entry number (Takes (numbers ++ taken ∷ [])) before → IsSound (record s { opened = before }) o p i r 0
 take_undone s before number place numbers taken o p i r f sound at is =
     let longer : Entry = Takes (numbers ++ taken ∷ []) in

@@ -77,14 +77,17 @@ ended_after takes s call t token (Renewed l o) kept (inr (same, low, never)) = i
 
 -- over a run
 
+-- after a run open transactions are still in order
 pub kept_run : (tells : Bool) (s : State) (h : List Step) → IsRun tells s h → Kept s → Kept (state_after s h)
 kept_run tells s [] run kept = kept
 kept_run tells s (x ∷ h) run kept = kept_run tells (after s x.call) h run.1 (kept_after s x.call (after s x.call) (shape tells s x.call run.0) kept)
 
+-- a token that was given before is so after a run
 pub earlier_run : (tells : Bool) (s : State) (h : List Step) (token : Token) → IsRun tells s h → Earlier s token → Earlier (state_after s h) token
 earlier_run tells s [] token run before = before
 earlier_run tells s (x ∷ h) token run before = earlier_run tells (after s x.call) h token run.1 (earlier_after s x.call (after s x.call) token (shape tells s x.call run.0) before)
 
+-- a transaction that ended is not open again after a run
 pub ended_run : (tells takes : Bool) (s : State) (h : List Step) (token : Token) → IsRun tells s h → Kept s → Ended takes s token → Ended takes (state_after s h) token
 ended_run tells takes s [] token run kept ended = ended
 ended_run tells takes s (x ∷ h) token run kept ended =
@@ -155,11 +158,13 @@ rolled_ended tells false s token may kept =
 
 -- a token that is stale is of a transaction that ended, and one of a transaction that ended is stale
 
+-- an entry of takes is found where takes are looked for
 pub no_takes : (e : Option Entry) → as_takes e ≡ None → kind e ≡ Some true → ⊥
 no_takes None is h = cc
 no_takes (Some (Puts events)) is h = cc
 no_takes (Some (Takes numbers)) is h = cc
 
+-- an entry of puts is found where puts are looked for
 pub no_puts : (e : Option Entry) → as_puts e ≡ None → kind e ≡ Some false → ⊥
 no_puts None is h = cc
 no_puts (Some (Puts events)) is h = cc
@@ -179,6 +184,7 @@ puts_none (Some (Takes numbers)) never = refl
 abbrev Tells : ℕ → ℕ → Type 0
 Tells a b = ((a == b) ≡ true) × (a ≡ b) ⊎ ((a == b) ≡ false) × (a ≢ b)
 
+-- a token that was given and is stale is of a transaction that ended
 pub stale_ended : (takes : Bool) (s : State) (token : Token) → Earlier s token → Stale takes s token → Ended takes s token
 stale_ended takes s token (inl low) stale = inl low
 stale_ended true s token (inr (same, low)) stale = from (eqb_tells token.life s.life)
@@ -192,6 +198,7 @@ stale_ended false s token (inr (same, low)) stale = from (eqb_tells token.life s
     from (inl alive) = inr (same, low, no_puts (entry_of token.number s.opened) (rw alive.0 at stale))
     from (inr other) = absurd (other.1 same)
 
+-- a token of a transaction that ended is stale
 pub ended_stale : (takes : Bool) (s : State) (token : Token) → Ended takes s token → Stale takes s token
 ended_stale true s token ended = from (eqb_tells token.life s.life) ended
   where

@@ -69,6 +69,7 @@ home_over : (tells : Bool) (ns : List ℕ) (start : Opening) (a b : List Step) �
     → AreOver (state_after (opening start) (a ++ b)) (own_calls ns (opening start) (a ++ b))
 home_over tells ns start a b run same over = subst (AreOver (state_after (opening start) (a ++ b))) (sym (own_same ns (opening start) a b same)) (over_later tells ns start a b run over)
 
+-- a pass's transactions that are over stay so in longer histories with no further call of its numbers
 pub stay_over : StayOver
 stay_over tells home pass run base (begins, same) over = from home.base home.seen base begins.1 run same
   where

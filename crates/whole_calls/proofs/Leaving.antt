@@ -32,6 +32,7 @@ pub record IsFace {F : Type 0} (pass : F → Known) (saw : F → List Own → St
   pub saws : (q : F) (own : List Own) (s : State) → saw q own s → (owned (pass q).view ≡ own) × (state_seen (pass q).view ≡ s)
   pub laters : (p q : F) → kept p q → Later (pass p) (pass q)
 
+-- a port is a face of its pass
 pub port_face : {F : Type 0} (pass : F → Known) {C : Type 0} (stands : C → Opening → List Step → Type 0) → IsFace pass (λ p. Saw stands (pass p).view) (λ p q. Later (pass p) (pass q))
 port_face pass stands = record { saws = λ q own s saw. (saw.own_all, saw.state); laters = λ p q l. l }
 
@@ -45,6 +46,7 @@ either_laters (Disk p) (Memory q) l = absurd l
 either_laters (Memory p) (Disk q) l = absurd l
 either_laters (Memory p) (Memory q) l = l
 
+-- a port of either kind of channel is a face of its pass
 pub either_face : {R A B : Type 0} (disk : A → Opening → List Step → Type 0) (memory : B → Opening → List Step → Type 0) → IsFace {F = EitherPort R A B} pass_of (SawIn disk memory) LaterPort
 either_face disk memory = record { saws = either_saws disk memory; laters = either_laters }
 
@@ -53,6 +55,7 @@ pub record Goes (p q : Known) : Type 0 where
   pub later : Later p q
   pub stays : StaysOver p q
 
+-- without a call a pass leaves none open where it had left none
 pub goes_none : (p : Known) → Goes p p
 goes_none p = record { later = later_none p; stays = λ tells run over. over }
 
@@ -60,6 +63,7 @@ goes_none p = record { later = later_none p; stays = λ tells run over. over }
 run_before : (tells : Bool) (p q : Known) → Later p q → SawRun tells q.view → SawRun tells p.view
 run_before tells p q l run = run_front tells (opening p.view.base) p.view.seen l.begins.0 (subst (λ (x : Opening × List Step). IsRun tells (opening x.0) x.1) (λ i. (l.base i, sym l.begins.1 i)) run)
 
+-- a pass goes on, and then further
 pub goes_then : (p q r : Known) → Goes p q → Goes q r → Goes p r
 goes_then p q r f g = record { later = later_then p q r f.later g.later; stays = λ tells run over. g.stays tells run (f.stays tells (run_before tells q r g.later run) over) }
 
@@ -92,11 +96,13 @@ module _ {F : Type 0} (pass : F → Known) (saw : F → List Own → State → T
       let at = gains (pass p).view.base [] (owned (pass p).view) (refl, refl, refl) in
       goes_by (pass p) (pass q) (face.laters p q k) at.0 at.1.2 (λ tells run. over tells at.0 run at.1.2 at.2)
 
+  -- a pass goes on by a batch that is put
   pub put : (events : List Content) (result : Result ℕ FaceRefused) (old new : F) → PortPuts pass saw kept old new events result → Goes (pass old) (pass new)
   put events result old new once =
       goes_face old new once.same _ once.calls
       (λ tells more run all it. batch_over tells (pass new).view.numbers (pass new).view.base (pass new).view.seen run (saw new) (stood new) _ events result (owned (pass old).view) more ([], append-nil (owned (pass old).view ++ more) ∙ all) it)
 
+  -- a batch that is put leaves no transaction open
   pub puts_over : PutsAreOver pass saw kept
   puts_over events result old new once = (put events result old new once).stays
 
@@ -125,10 +131,12 @@ module _ {F : Type 0} (pass : F → Known) (saw : F → List Own → State → T
     on_events : (turn : Turn) (a b : Taking F S) → RunsOnEvents Turns Looks a turn b → Went a b
     on_events turn a b (size, between, some, look, run) = goes_then (pass a.from) (pass between.from) (pass b.from) (looked a between size look) (turned between b turn run)
 
+    -- a pass goes on by deliveries, one after the other
     pub deliveries : (counts : List ℕ) (a b : Taking F S) → Deliveries Turns Looks counts a b → Went a b
     deliveries [] a b same = went_same a b same
     deliveries (count ∷ counts) a b (next, first, rest) = goes_then (pass a.from) (pass next.from) (pass b.from) (on_events (Delivered count) a next first) (deliveries counts next b rest)
 
+    -- a pass goes on by the end of a drain
     pub drain_end : (end : ChannelDrain) (a b : Taking F S) → EndsDrain Turns Looks end a b → Went a b
     drain_end Emptied a b look = looked a b 0 look
     drain_end (Stopped turn) a b (not, run) = on_events turn a b run
@@ -142,14 +150,17 @@ module _ {F : Type 0} (pass : F → Known) (saw : F → List Own → State → T
           goes_face a.from b.from once.same _ once.calls (λ tells more run all it. mend_over (state_seen (pass b.from).view) (on_disk a.from) (saw b.from) _ result (owned (pass a.from).view) more it)
       mended false a b same = went_same a b same
 
+      -- a pass goes on by the rounds of a sink
       pub rounds : (turns : List Turn) (a b : Taking F S) → Rounds Turns Mends turns a b → Went a b
       rounds [] a b same = went_same a b same
       rounds (turn ∷ turns) a b (next, (between, first, last), rest) =
           goes_then (pass a.from) (pass next.from) (pass b.from) (goes_then (pass a.from) (pass between.from) (pass next.from) (turned a between turn first) (mended (needs_mend turn) between next last)) (rounds turns next b rest)
 
+  -- the rounds of a sink leave no transaction open
   pub rounds_over : (on_disk : F → Type 0) {S : Type 0} (sink : Told S) → RoundsAreOver pass saw kept on_disk sink
   rounds_over on_disk sink batch turns old new made = (rounds sink batch on_disk turns old new made).stays
 
+  -- the draining of a channel leaves no transaction open
   pub drains_over : {S : Type 0} (sink : Told S) → DrainsAreOver pass saw kept sink
   drains_over sink batch end old new drain =
       (goes_then (pass old.from) (pass drain.between.from) (pass new.from) (deliveries sink batch drain.counts old drain.between drain.deliveries) (drain_end sink batch end drain.between new drain.ends)).stays

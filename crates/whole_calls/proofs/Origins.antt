@@ -133,6 +133,7 @@ over_step ns start whole end all front x back split is =
     over_at end (own_calls ns (opening start) front) (record { call = x.call; before = state_after (opening start) front; moment = x.moment }) (own_calls ns (after (state_after (opening start) front) x.call) back)
     (subst (AreOver end) (own_at ns (opening start) whole front x back split is) all)
 
+-- where a pass with all numbers leaves none open, none is open
 pub none_open : NoneIsOpen
 none_open tells home run below every over = nothing_found (state_seen home).opened found
   where
@@ -166,5 +167,6 @@ over_each ns end s (x ∷ h) each = by_own (has ns x.pass) refl (over_each ns en
     by_own true is rest = (first (has (x.pass ∷ []) x.pass) (own_calls (x.pass ∷ []) (after s x.call) h) (has_one x.pass) (each x.pass is), rest)
     by_own false is rest = rest
 
+-- where none of each single number is open, a pass leaves none open
 pub each_over : EachIsOver
 each_over home each = over_each home.numbers (state_seen home) (opening home.base) home.seen each

@@ -64,14 +64,17 @@ place ns s (x ∷ h) a o b is = by_own (has ns x.pass) refl a (λ c rest. place 
 
 -- the machine's answers in front, and after
 
+-- the machine's answers to all calls are its answers to the first of them
 pub run_front : (tells : Bool) (s : State) (a b : List Step) → IsRun tells s (a ++ b) → IsRun tells s a
 run_front tells s [] b run = tt
 run_front tells s (x ∷ a) b run = (run.0, run_front tells (after s x.call) a b run.1)
 
+-- so it is with those behind, from the state that the first lead to
 pub run_behind : (tells : Bool) (s : State) (a b : List Step) → IsRun tells s (a ++ b) → IsRun tells (state_after s a) b
 run_behind tells s [] b run = run
 run_behind tells s (x ∷ a) b run = run_behind tells (after s x.call) a b run.1
 
+-- the state after some calls and then further ones
 pub state_append : (s : State) (a b : List Step) → state_after s (a ++ b) ≡ state_after (state_after s a) b
 state_append s [] b = refl
 state_append s (x ∷ a) b = state_append (after s x.call) a b

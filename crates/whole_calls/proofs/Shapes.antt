@@ -63,6 +63,7 @@ shape_stage s call number (Some (Takes [])) = Without number refl refl refl
 shape_stage s call number (Some (Puts (e ∷ events))) = Without number refl refl refl
 shape_stage s call number (Some (Takes (n ∷ numbers))) = Without number refl refl refl
 
+-- each call that the machine admits changes the open transactions in one of these ways
 pub shape : (tells : Bool) (s : State) (call : Call) → Admits tells s call → Shape s call (after s call)
 shape tells s (BeginPut (Ok token)) may = Began false token refl may.1 refl refl refl
 shape tells s (BeginPut (Err e)) may = Same refl refl refl
@@ -102,6 +103,7 @@ abbrev pub Apart : Opened → Type 0
 Apart [] = Unit {0}
 Apart (o ∷ opened) = (entry_of o.0 opened ≡ None) × Apart opened
 
+-- an entry changed to one of its kind leaves the kinds of all as they were
 pub kind_with : (n number : ℕ) (old new : Entry) (opened : Opened) → entry_of number opened ≡ Some old → is_takes new ≡ is_takes old → kind (entry_of n (with_entry number new opened)) ≡ kind (entry_of n opened)
 kind_with n number old new [] is same = refl
 kind_with n number old new (o ∷ opened) is same = by_test (o.0 == number) is (λ h. kind_with n number old new opened h same)
@@ -126,6 +128,7 @@ some_none : (b : Bool) (e e' : Option Entry) (o : Entry) → cond b (Some o) e �
 some_none true e e' o is more = absurd (cc)
 some_none false e e' o is more = more is
 
+-- a transaction that is not open is not so either once an entry was changed
 pub missing_with : (n number : ℕ) (new : Entry) (opened : Opened) → entry_of n opened ≡ None → entry_of n (with_entry number new opened) ≡ None
 missing_with n number new [] is = refl
 missing_with n number new (o ∷ opened) is = by_test (o.0 == number) (missing_with n number new opened)
@@ -138,6 +141,7 @@ missing_with n number new (o ∷ opened) is = by_test (o.0 == number) (missing_w
     by_test true more = here (o.0 == n) is
     by_test false more = some_none (o.0 == n) (entry_of n opened) (entry_of n (with_entry number new opened)) o.1 is more
 
+-- a transaction that is not open is not so either once an entry was removed
 pub missing_without : (n number : ℕ) (opened : Opened) → entry_of n opened ≡ None → entry_of n (without_entry number opened) ≡ None
 missing_without n number [] is = refl
 missing_without n number (o ∷ opened) is = by_test (o.0 == number) (missing_without n number opened)
@@ -226,6 +230,7 @@ Kept s = InOrder s.txn s.opened
 as_kept : (t : State) (txn : ℕ) (opened : Opened) → t.txn ≡ txn → t.opened ≡ opened → InOrder txn opened → Kept t
 as_kept t txn opened n o kept = subst (λ (x : ℕ × Opened). InOrder x.0 x.1) (λ i. (sym n i, sym o i)) kept
 
+-- a call leaves open transactions in order, each with its own earlier number
 pub kept_after : (s : State) (call : Call) (t : State) → Shape s call t → Kept s → Kept t
 kept_after s call t (Same l n o) kept = as_kept t s.txn s.opened n o kept
 kept_after s call t (With number old new l n is same o) kept = as_kept t s.txn (with_entry number new s.opened) n o (numbered-with s.txn number new s.opened kept.0, apart_with number new s.opened kept.1)

@@ -20,6 +20,7 @@ use Rattle.whole_calls.proofs.Origins.{kept_opening}
 use Rattle.whole_calls.proofs.Placing.{IsAt, place, run_behind, run_front, state_append}
 use Rattle.whole_calls.proofs.Shapes.{Kept, begins}
 
+-- what some calls began is over, and what further ones began too
 pub over_append : (s : State) (a b : List Own) → AreOver s a → AreOver s b → AreOver s (a ++ b)
 over_append s [] b x y = y
 over_append s (o ∷ a) b x y = (x.0, over_append s a b x.1 y)

@@ -76,6 +76,7 @@ size_free : (k : Kind) (s : State) (e : Content) → k ≡ OnFile → size e ≤
 size_free OnFile s e is small room = rw (lt_false 1048576 (size e) small, le_false s.rules.limits.capacity (count s) room) refl
 size_free other s e is small room = absurd (cc)
 
+-- a put that fits, in a channel that is not broken and has room, is not refused
 pub put_free : (s : State) (events : List Content) (e : Content) → s.broken ≡ false → length events < s.rules.limits.txn_capacity → s.rules.kind ≡ OnFile → size e ≤ 1048576 → count s < s.rules.limits.capacity → put_refusal s (Some events) e ≡ None
 put_free s events e broken few kind small room = cond_false s.broken _ _ None broken (cond_false (nat_le s.rules.limits.txn_capacity (length events)) _ _ None (le_false s.rules.limits.txn_capacity (length events) few) (size_free s.rules.kind s e kind small room))
 
@@ -104,10 +105,12 @@ stage_allows s events none = from s.broken refl none
     from true is it = absurd (cc)
     from false is it = (is, few test refl (or_else_none (room_refusal s.rules.kind s (length events)) (cond test (Some (StageNo.Spent Number)) None) it))
 
+-- a channel that does not refuse a put is not broken
 pub put_whole : (s : State) (puts : Option (List Content)) (e : Content) → put_refusal s puts e ≡ None → s.broken ≡ false
 put_whole s None e none = absurd (cc)
 put_whole s (Some events) e none = grind (arith, nat_tests)
 
+-- a channel that does not refuse a take is not broken
 pub take_whole : (s : State) (takes : Option (List ℕ)) → take_refusal s takes ≡ None → s.broken ≡ false
 take_whole s None none = absurd (cc)
 take_whole s (Some numbers) none = grind (arith, nat_tests)
@@ -197,6 +200,7 @@ same_among n xs ys same = from (among_times n xs) (among_times n ys)
     from (inr a) (inl b) = absurd (omega (arith, same, a.1, b.1))
     from (inr a) (inr b) = a.0 ∙ sym b.0
 
+-- what is left depends only on how often each number was taken
 pub without_same : (xs ys : List ℕ) (items : List (ℕ × Content)) → ((n : ℕ) → times n xs ≡ times n ys) → without xs items ≡ without ys items
 without_same xs ys [] same = refl
 without_same xs ys (item ∷ items) same =

@@ -151,6 +151,7 @@ transaction s s' e events j h is =
           leaves.others m other ∙ (put.others m other ∙ entry_front m x s.opened ((s.txn, Puts []) ∷ []) has);
     })
 
+-- storing some events adds one entry of puts, and open transactions stay
 pub stored_becomes : (c d : Channel) (events : List Content) → is_empty events ≡ false → Is c → stored events c ≡ Some d → Becomes c d (APuts events) × KeepsOpen c d
 stored_becomes c d [] full h is = absurd (cc)
 stored_becomes c d (e ∷ events) full h is =
@@ -171,10 +172,12 @@ stored_becomes c d (e ∷ events) full h is =
       t.opened,
     )
 
+-- events stored aside add one entry of puts, and open transactions stay
 pub aside_becomes : (c d : Channel) (events : List Content) → Is c → aside events c ≡ Some d → Becomes c d (APuts events) × KeepsOpen c d
 aside_becomes c d [] h is = absurd (no_some d is)
 aside_becomes c d (e ∷ events) h is = stored_becomes c d (e ∷ events) refl h is
 
+-- a flush, done or failed, stages nothing new and keeps open transactions
 pub flushed_becomes : (done : Bool) (c d : Channel) → Is c → flushed done c ≡ Some d → Becomes c d NoEntry × KeepsOpen c d
 flushed_becomes true c d h is =
     let make : Channel = record c { state = settle c.state; journal = commits c } in
@@ -197,6 +200,7 @@ flushed_becomes false c d h is =
     subst (λ (x : Channel). Becomes c x NoEntry × KeepsOpen c x) u.1
     (quiet c (broken_state c.state) (history_call c.state (broken_state c.state) c.journal c.journal (Flush (Err FlushNo.DiskFault)) h (not_true c.state.broken u.0, h.kind) tt refl (append-nil c.journal) refl) refl refl, λ m e has. has)
 
+-- a failure stages nothing and keeps open transactions
 pub failed_becomes : (c d : Channel) → Is c → failed c ≡ Some d → Becomes c d NoEntry × KeepsOpen c d
 failed_becomes c d h is = from c.state.broken refl is
   where
@@ -213,6 +217,7 @@ pub record Begins (c d : Channel) : Type 0 where
   pub entry : entry_of c.state.txn d.state.opened ≡ Some (Takes [])
   pub numbered : AreNumbered c.state.txn c.state.opened
 
+-- a begin of takes opens an empty transaction with the next number
 pub take_begun_becomes : (c d : Channel) → Is c → take_begun c ≡ Some d → Begins c d
 take_begun_becomes c d h is =
     let s : State = after_begin (Takes []) c.state (Ok (next_token c.state)) in
@@ -236,6 +241,7 @@ took_any s token None items e = record { staged = refl; life = refl; rules = ref
 took_any s token (Some numbers) [] e = record { staged = refl; life = refl; rules = refl; others = λ m other. refl }
 took_any s token (Some numbers) (item ∷ items) e = record { staged = refl; life = refl; rules = refl; others = λ m other. other_with m token.number (Takes (numbers ++ item.0 ∷ [])) s.opened other }
 
+-- a take stages nothing and leaves the other open transactions
 pub taken_becomes : (token : Token) (c : Channel) (got : Channel × Content) → Is c → taken token c ≡ Some got → Becomes c got.0 NoEntry × KeepsOthers c got.0 token.number
 taken_becomes token c got h is =
     let s : Content → State = λ e. after_take c.state token (takes_of c.state token) (free c.state) (Ok (record { event = Some e; spilled = false })) in
@@ -246,6 +252,7 @@ taken_becomes token c got h is =
     let history : IsHistory (s e.0) c.journal = history_call c.state (s e.0) c.journal c.journal (Take token (Ok (record { event = Some e.0; spilled = false }))) h (u.0, sym e.1, no_spill c.state.rules.kind h.kind, tt) tt refl (append-nil c.journal) any.rules in
     subst (λ (g : Channel × Content). Becomes c g.0 NoEntry × KeepsOthers c g.0 token.number) u.1 (quiet c (s e.0) history any.staged any.life, λ m x other has. any.others m other ∙ has)
 
+-- a rollback of takes stages nothing and leaves the other open transactions
 pub given_up_becomes : (token : Token) (c d : Channel) → Is c → given_up token c ≡ Some d → Becomes c d NoEntry × KeepsOthers c d token.number
 given_up_becomes token c d h is =
     subst (λ (x : Channel). Becomes c x NoEntry × KeepsOthers c x token.number) (same_some (record c { state = s ended }) d is) (quiet c (s ended) history (left ended).0 (left ended).1, λ m e other has. (left ended).3 m other ∙ has)
@@ -269,6 +276,7 @@ le_of a b is = grind (arith, nat_tests)
 lt_of : (a b : ℕ) → nat_lt a b ≡ true → a < b
 lt_of a b is = grind (arith, nat_tests)
 
+-- a reopening keeps the journal and so many staged entries, and loses the rest
 pub reopened_becomes : (kept : ℕ) (c d : Channel) → Is c → reopened kept c ≡ Some d → Reopens c d (length c.journal + kept)
 reopened_becomes kept c d h is =
     let make : Channel = record c { state = after_reopen c.state (Ok (record { kept = Front kept; txn = c.state.txn })); journal = c.journal ++ take kept c.state.staged; named = take (length c.journal + kept) c.named } in
@@ -289,6 +297,7 @@ reopened_becomes kept c d h is =
 no_events : (put : List Content) (n : ℕ) (numbers : List ℕ) → events_of put (n ∷ numbers) ≡ map (λ e. Some e) [] → ⊥
 no_events put n numbers is = cc
 
+-- a commit of takes adds its entry with its delivery, or nothing where it took nothing
 pub committed_becomes : (token : Token) (delivery : Delivery) (events : List Content) (numbers : List ℕ) (c d : Channel) → Is c → entry_of token.number c.state.opened ≡ Some (Takes numbers) → Are c numbers events → committed token delivery events c ≡ Some d
     → ((Becomes c d (ATakes numbers delivery)) ⊎ (Becomes c d NoEntry)) × KeepsOthers c d token.number
 committed_becomes token delivery events numbers c d h opened are is = (from numbers events opened are u.1, λ m e other has. subst (λ (x : Channel). entry_of m x.state.opened ≡ Some e) u.1 (leaves.others m other ∙ has))

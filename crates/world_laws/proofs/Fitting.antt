@@ -32,6 +32,7 @@ pub record Fits (s : State) : Type 0 where
   pub few : length s.opened ≤ 1024
   pub fits : OpenFits s.rules s.opened
 
+-- an open transaction that is looked up by its number fits
 pub fits_of : (r : Rules) (number : ℕ) (opened : Opened) (entry : Entry) → OpenFits r opened → entry_of number opened ≡ Some entry → EntryFits r entry
 fits_of r number [] entry all is = absurd (no_some entry is)
 fits_of r number (o ∷ opened) entry all is = from (o.0 == number) is (fits_of r number opened entry all.1)
@@ -82,9 +83,11 @@ all_push (x ∷ events) e all small = (all.0, all_push events e all.1 small)
 
 -- what an answer Ok shows of the state
 
+-- where a begin is not refused, the channel is whole, with room for one more transaction
 pub begin_allows : (s : State) → begin_refusal s ≡ None → (s.broken ≡ false) × (length s.opened < 1024) × (s.txn < 2 ^ 64 - 1)
 begin_allows s none = (grind (arith, nat_tests), grind (arith, nat_tests), grind (arith, nat_tests))
 
+-- where a put is not refused, its transaction is open and not full, and the event is not too large
 pub put_allows : (s : State) (puts : Option (List Content)) (event : Content) → s.rules.kind ≡ OnFile → put_refusal s puts event ≡ None
     → (events : List Content) × (puts ≡ Some events) × (length events < s.rules.limits.txn_capacity) × (size event ≤ 1048576)
 put_allows s None event kind none = absurd (cc)
@@ -190,6 +193,7 @@ fits_after s (Reopen (Ok r)) may f = reopen_fits s r.kept r.txn f
 fits_after s (Reopen (Err e)) may f = broken_fits s f
 fits_after s call may f = f
 
+-- a run from a state that fits leads to one that fits
 pub fits_run : (s : State) (h : List Made) → IsRun true s h → Fits s → Fits (state_after s h)
 fits_run s [] run f = f
 fits_run s (step ∷ h) run f = fits_run (after s step.call) h run.1 (fits_after s step.call run.0 f)

@@ -13,6 +13,7 @@ use Rattle.channel_face.proofs.LawLemmas.{sound_opening, stands_for, commits_for
 use Rattle.world_laws.specs.World.{Channel, commits}
 use Rattle.world_laws.specs.Held.{IsHistory, Balances, nothing}
 
+-- one more call that keeps the front, after calls that did so
 pub all_push : (calls : List Made) (m : Made) → ReadsNone calls → KeepsFront m.call → ReadsNone (calls ++ m ∷ [])
 all_push [] m all one = (one, tt)
 all_push (c ∷ calls) m all one = (all.0, all_push calls m all.1 one)
@@ -35,6 +36,7 @@ history_call s s' j j' call h may front state settled rules =
 empty_base : (b : Base) → b ≡ nothing → IsBase b
 empty_base b is = subst IsBase (sym is) (record { rising = λ k le. absurd (omega (arith, le)); below = tt })
 
+-- a state that has a history is sound
 pub sound_is : (s : State) (j : List Entry) → IsHistory s j → IsSoundState s
 sound_is s j h = subst IsSoundState h.state (sound_run true (opening h.start) h.calls (sound_opening h.start (empty_base h.start.base h.empty)) h.run)
 

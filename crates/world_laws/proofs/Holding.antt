@@ -34,6 +34,7 @@ pub record IsDelivering (w : World) : Type 0 where
   pub named : (n : ℕ) (node : Node) → AtNode w n node → AreNamed w n node
   pub once : HeldOnce w
 
+-- both parts as one sentence for all holders
 pub delivering_of : (w : World) → TakesAreDelivered w → AttemptsAgree w → IsDelivering w
 delivering_of w takes agree = record { attempts = agree.agree; apart = agree.apart; named = takes.named; once = record { tags = tags; outputs = outputs } }
   where
@@ -47,9 +48,11 @@ delivering_of w takes agree = record { attempts = agree.agree; apart = agree.apa
     outputs (ACommit n c i) (AnAttempt l k) m p x y = sym (agree.outputs l k (ACommit n c i) m p y x)
     outputs (ACommit n c i) (ACommit l d j) m p x y = takes.outputs (ACommit n c i) (ACommit l d j) m p tt tt x y
 
+-- the part on takes, from that sentence
 pub takes_of : (w : World) → IsDelivering w → TakesAreDelivered w
 takes_of w right = record { named = right.named; tags = λ a b tag p q x y. right.once.tags a b tag x y; outputs = λ a b n place p q x y. right.once.outputs a b n place x y }
 
+-- the part on attempts, from that sentence
 pub attempts_of : (w : World) → IsDelivering w → AttemptsAgree w
 attempts_of w right = record { agree = right.attempts; apart = right.apart; tags = λ n k b tag x y. right.once.tags (AnAttempt n k) b tag x y; outputs = λ n k b m p x y. right.once.outputs (AnAttempt n k) b m p x y }
 
@@ -64,9 +67,11 @@ pub record Later (old new : Node) : Type 0 where
   pub acks : (place : ℕ) (ack : Work) → slice_get old.acks place ≡ Some ack → slice_get new.acks place ≡ Some ack
   pub outputs : (place : ℕ) (events : List Content) → slice_get old.outputs place ≡ Some events → slice_get new.outputs place ≡ Some events
 
+-- where acknowledgements and outputs are the same, they stay
 pub later_same : (old new : Node) → new.acks ≡ old.acks → new.outputs ≡ old.outputs → Later old new
 later_same old new acks outputs = record { acks = λ place ack is. ap (λ (l : List Work). slice_get l place) acks ∙ is; outputs = λ place events is. ap (λ (l : List (List Content)). slice_get l place) outputs ∙ is }
 
+-- a step of a node whose acknowledgements and outputs stay loses no request, acknowledgement or output
 pub extends : (w : World) (n : ℕ) (old new : Node) (more : List Packet) → AtNode w n old → Later old new → Extends w (stepped w n new more)
 extends w n old new more here later = record {
   requests = λ m tag batch is. still_asked w (slice_set w.nodes n new) more m tag batch is;
@@ -74,11 +79,13 @@ extends w n old new more here later = record {
   outputs = λ m place events is. node_goes (λ node. slice_get node.outputs place ≡ Some events) w n old new here (later.outputs place events) m is.0 is.1 is.2;
 }
 
+-- a delivery that is due stays so as the world goes on
 pub due_later : (w w' : World) (n : ℕ) (c : Channel) (a : Attempt) (delivery : Option Delivery) → Extends w w' → IsDue w n c a delivery → IsDue w' n c a delivery
 due_later w w' n c a None e due = tt
 due_later w w' n c a (Some (Output place)) e due = (due.0, e.outputs n place a.events due.1)
 due_later w w' n c a (Some (Acked m place)) e due = (due.0, e.acks m place due.0 due.1, due.2)
 
+-- an attempt that agrees with its channel still agrees as the world goes on
 pub agrees_later : (w w' : World) (n : ℕ) (c : Channel) (a : Attempt) → Extends w w' → AttemptAgrees w n c a → AttemptAgrees w' n c a
 agrees_later w w' n c a e t = record {
   numbers = t.numbers;
@@ -98,6 +105,7 @@ names_later w w' n c (Puts events) name e is = is
 names_later w w' n c (Takes numbers) None e is = is
 names_later w w' n c (Takes numbers) (Some delivery) e is = (is.0, is.1, delivered_later w w' n c is.0 delivery e is.2)
 
+-- what commits name is still there as the world goes on
 pub named_later : (w w' : World) (n : ℕ) (c : Channel) → Extends w w' → CommitsAreNamed w n c → CommitsAreNamed w' n c
 named_later w w' n c e t = record { beside = t.beside; names = λ place entry name x y. names_later w w' n c entry name e (t.names place entry name x y) }
 
@@ -106,9 +114,11 @@ named_later w w' n c e t = record { beside = t.beside; names = λ place entry na
 OnceBy : {X : Type 0} → (Holder → X → Type 0) → Type 0
 OnceBy {X} Holds = (a b : Holder) (x : X) → Holds a x → Holds b x → a ≡ b
 
+-- each thing still has one holder where nobody holds more
 pub once_less : {X : Type 0} (Old New : Holder → X → Type 0) → ((a b : Holder) (x : X) → Old a x → Old b x → a ≡ b) → ((h : Holder) (x : X) → New h x → Old h x) → (a b : Holder) (x : X) → New a x → New b x → a ≡ b
 once_less Old New once less a b x p q = once a b x (less a x p) (less b x q)
 
+-- each thing has one holder where one gains only what nobody held
 pub once_fresh : {X : Type 0} (Old New : Holder → X → Type 0) (Fresh : X → Type 0) (h0 : Holder) → ((a b : Holder) (x : X) → Old a x → Old b x → a ≡ b) → ((h : Holder) (x : X) → New h x → Old h x ⊎ ((h ≡ h0) × Fresh x)) → ((h : Holder) (x : X) → Fresh x → Old h x → ⊥) → (a b : Holder) (x : X) → New a x → New b x → a ≡ b
 once_fresh {X} Old New Fresh h0 once goes fresh a b x p q = from (goes a x p) (goes b x q)
   where
@@ -118,6 +128,7 @@ once_fresh {X} Old New Fresh h0 once goes fresh a b x p q = from (goes a x p) (g
     from (inr p) (inl q) = absurd (fresh b x p.1 q)
     from (inr p) (inr q) = p.0 ∙ sym q.0
 
+-- each thing has one holder where one hands it over to another
 pub once_swap : {X : Type 0} (Old New : Holder → X → Type 0) (gone h0 : Holder) → ((a b : Holder) (x : X) → Old a x → Old b x → a ≡ b) → ((h : Holder) (x : X) → New h x → (Old h x × (h ≡ gone → ⊥)) ⊎ ((h ≡ h0) × Old gone x)) → (a b : Holder) (x : X) → New a x → New b x → a ≡ b
 once_swap {X} Old New gone h0 once goes a b x p q = from (goes a x p) (goes b x q)
   where
@@ -131,6 +142,7 @@ abbrev pub node_of : Holder → ℕ
 node_of (AnAttempt n number) = n
 node_of (ACommit n channel place) = n
 
+-- an entry that names a delivery has events, and they are delivered
 pub named_at : (w : World) (n : ℕ) (c : Channel) (entry : Entry) (delivery : Delivery) → Names w n c entry (Some delivery) → (events : List Content) × IsDelivered w n c events delivery
 named_at w n c (Puts events) delivery is = absurd (cc)
 named_at w n c (Takes numbers) delivery is = (is.0, is.2)
@@ -142,6 +154,7 @@ named_there w n c place delivery t is =
     let e = get_some (commits c) place (omega (arith, less, t.beside)) in
     named_at w n c e.0 delivery (t.names place e.0 (Some delivery) e.1 is)
 
+-- at one place there is one acknowledgement
 pub one_ack : (w : World) (m place : ℕ) (a b : Work) → IsAck w m place a → IsAck w m place b → a ≡ b
 one_ack w m place a b x y =
     let node : x.0 ≡ y.0 = same_some x.0 y.0 (sym x.1 ∙ y.1) in
@@ -151,9 +164,11 @@ module _ (w : World) (n : ℕ) (old new : Node) (more : List Packet) (here : AtN
   abbrev pub w' : World
   w' = stepped w n new more
 
+  -- this step loses no request, acknowledgement or output
   pub goes_on : Extends w w'
   goes_on = extends w n old new more here later
 
+  -- a node of the new world is one of the others, or the one that moved
   pub cases : (m : ℕ) (node : Node) → AtNode w' m node → ((m ≢ n) × AtNode w m node) ⊎ ((m ≡ n) × (new ≡ node))
   cases m node is = node_cases w n old new m node here is
 
@@ -163,6 +178,7 @@ module _ (w : World) (n : ℕ) (old new : Node) (more : List Packet) (here : AtN
       let d = (named_there w m c place (Acked k i) t is).1 in
       subst (λ (x : Work). IsAck w k i x) (one_ack w' k i d.0 ack (goes_on.acks k i d.0 d.1) now) d.1
 
+  -- what holds of all tags of the other nodes and of the new one holds of all tags
   pub tags_from : (R : Holder → Tag → Type 0) → ((h : Holder) (t : Tag) → HoldsTag w h t → node_of h ≢ n → R h t)
       → ((k : ℕ) (a : Attempt) (t : Tag) → live new.attempts k ≡ Some a → a.tag ≡ Some t → R (AnAttempt n k) t)
       → ((channel : ℕ) (d : Channel) (place k i : ℕ) (ack : Work) (t : Tag) → slice_get new.channels channel ≡ Some d → slice_get d.named place ≡ Some (Some (Acked k i)) → IsAck w' k i ack → ack.tag ≡ t → R (ACommit n channel place) t)
@@ -178,6 +194,7 @@ module _ (w : World) (n : ℕ) (old new : Node) (more : List Packet) (here : AtN
       from (inl was) = apart_from (ACommit m channel place) t (is.0, is.1, is.2, is.3, (is.4.0, was.1, is.4.2), is.5, ack_was m is.0 place is.1 is.2 is.3 (right.named m is.4.0 was.1 channel is.0 is.4.2) is.5 is.6, is.7) was.0
       from (inr same) = subst (λ (x : ℕ). R (ACommit x channel place) t) (sym same.0) (by_commit channel is.0 place is.1 is.2 is.3 t (ap (λ (x : Node). slice_get x.channels channel) same.1 ∙ is.4.2) is.5 is.6 is.7)
 
+  -- what holds of all output places of the other nodes and of the new one holds of all output places
   pub outputs_from : (R : Holder → ℕ × ℕ → Type 0) → ((h : Holder) (x : ℕ × ℕ) → HoldsOutput w h x.0 x.1 → node_of h ≢ n → R h x)
       → ((k : ℕ) (a : Attempt) (p : ℕ) → live new.attempts k ≡ Some a → a.delivery ≡ Some (Output p) → R (AnAttempt n k) (n, p))
       → ((channel : ℕ) (d : Channel) (place p : ℕ) → slice_get new.channels channel ≡ Some d → slice_get d.named place ≡ Some (Some (Output p)) → R (ACommit n channel place) (n, p))
@@ -236,6 +253,7 @@ pub record Local (w : World) (n : ℕ) (old new : Node) : Type 0 where
   pub was_attempt : (k : ℕ) (a : Attempt) → live new.attempts k ≡ Some a → WasAttempt old k a
   pub was_channel : (k : ℕ) (d : Channel) → slice_get new.channels k ≡ Some d → (c : Channel) × (slice_get old.channels k ≡ Some c) × NamedLess c d
 
+-- deliveries still agree after a step in which nobody holds more
 pub local_delivers : (w : World) (n : ℕ) (old new : Node) (more : List Packet) → AtNode w n old → IsDelivering w → Local w n old new → IsDelivering (stepped w n new more)
 local_delivers w n old new more here right l =
     delivering w n old new more here l.later right

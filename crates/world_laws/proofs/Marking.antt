@@ -159,6 +159,7 @@ batch_marks saw seen e events result earlier own is = subst (λ (l : List Own). 
 
 -- takes
 
+-- a begin of takes is marked where it was answered with a token, and only there
 pub begun_marks : (seen : ℕ) (result : Result Token FaceRefused) (own : List Own) → IsTakeBegun seen result own → BeginsBy result (takes_marks own)
 begun_marks seen result own is = subst (λ (r : Result Token FaceRefused). BeginsBy r (takes_marks own)) (sym is.3) (from is.0 is.2)
   where
@@ -170,6 +171,7 @@ take_refused : (token : Token) (refused : TakeRefused) (s : State) (moment : ℕ
 take_refused token TakeNo.DiskFault s moment = tt
 take_refused token refused s moment = tt
 
+-- a take is marked by the event that it gave, and otherwise at most settles
 pub taken_marks : (seen : ℕ) (token : Token) (result : Result (Option Content) FaceRefused) (own : List Own) → IsTake seen token result own → TakesBy result (takes_marks own)
 taken_marks seen token result own is = subst (λ (r : Result (Option Content) FaceRefused). TakesBy r (takes_marks own)) (sym is.3) (from is.0 is.2)
   where
@@ -183,6 +185,7 @@ taken_marks seen token result own is = subst (λ (r : Result (Option Content) Fa
     from (Ok taken) made = subst (λ (l : List Own). TakesBy (Ok taken.event) (takes_marks l)) (sym made.1) (by taken.spilled taken.event)
     from (Err refused) made = made_marks (λ l. OnlySettles (takes_marks l)) seen (is_spent_take (Err refused)) (Take token (Err refused)) is.1 own tt (take_refused token refused is.1) made
 
+-- a transaction of takes that is rolled back is marked so, or not at all
 pub rolled_back_marks : (saw : List Own → State → Type 0) (token : Token) (earlier own : List Own) → IsTakeRolledBack saw token earlier own → IsGivenUp (takes_marks own)
 rolled_back_marks saw token earlier own (inl is) = inl (ap takes_marks is.2)
 rolled_back_marks saw token earlier own (inr is) = from is.3
@@ -201,6 +204,7 @@ ends_taking seen s Yes own sure is = subst (λ (l : List Own). OnlySettles (take
 ends_taking seen s No own sure is = made_marks (λ l. OnlySettles (takes_marks l)) seen (is_spent_flush is.0) (Flush is.0) s own tt (flush_only is.0 s) is.1
 ends_taking seen s InDoubt own sure is = subst (λ (l : List Own). OnlySettles (takes_marks l)) (sym is.0) tt
 
+-- a commit of takes is marked by its answer, also where that is in doubt
 pub committed_marks : (saw : List Own → State → Type 0) (seen : ℕ) (token : Token) (result : Result (Unit {0}) FaceRefused) (earlier own : List Own) → IsTakeCommit saw seen token result earlier own → CommitsBy result (takes_marks own)
 committed_marks saw seen token result earlier own is = subst (λ (l : List Own). CommitsBy result (takes_marks l)) (sym is.4) (from is.0 is.5 is.6)
   where

@@ -25,6 +25,7 @@ more_events put more (n ∷ numbers) (e ∷ events) is =
     let one = get_front put more n e both.0 in
     ap (λ (x : Option Content). x ∷ events_of (put ++ more) numbers) one ∙ ap (λ (l : List (Option Content)). Some e ∷ l) rest
 
+-- numbers with their events, and one more number with its own
 pub events_push : (put : List Content) (numbers : List ℕ) (events : List Content) (n : ℕ) (e : Content) → events_of put numbers ≡ map (λ x. Some x) events → slice_get put n ≡ Some e → events_of put (numbers ++ n ∷ []) ≡ map (λ x. Some x) (events ++ e ∷ [])
 events_push put [] [] n e is one = ap (λ (x : Option Content). x ∷ []) one
 events_push put [] (x ∷ events) n e is one = absurd (cc)
@@ -33,6 +34,7 @@ events_push put (m ∷ numbers) (x ∷ events) n e is one =
     let both = cons_same (slice_get put m) (Some x) (events_of put numbers) (map (λ e. Some e) events) is in
     ap (λ (y : Option Content). y ∷ events_of put (numbers ++ n ∷ [])) both.0 ∙ ap (λ (l : List (Option Content)). Some x ∷ l) (events_push put numbers events n e both.1 one)
 
+-- numbers keep their events as the journal grows
 pub are_more : (c d : Channel) (more : List Entry) (numbers : List ℕ) (events : List Content) → d.journal ≡ c.journal ++ more → Are c numbers events → Are d numbers events
 are_more c d more numbers events journal are =
     ap (λ (l : List Content). events_of l numbers) (ap put_events journal ∙ put_events-append c.journal more) ∙ more_events (put_events c.journal) (put_events more) numbers events are
@@ -84,6 +86,7 @@ AddedNames w n d NoEntry = Unit {0}
 AddedNames w n d (APuts events) = Unit {0}
 AddedNames w n d (ATakes numbers delivery) = Names w n d (Takes numbers) (Some delivery)
 
+-- commits are named as the channel goes on, where what is added is named rightly
 pub named_becomes : (w : World) (n : ℕ) (c d : Channel) (added : Added) → Becomes c d added → AddedNames w n d added → CommitsAreNamed w n c → CommitsAreNamed w n d
 named_becomes w n c d NoEntry b new was =
     let same : commits d ≡ commits c = b.longer ∙ append-nil (commits c) in
@@ -96,6 +99,7 @@ named_becomes w n c d NoEntry b new was =
 named_becomes w n c d (APuts events) b new was = one_named w n c d b.settled (Puts events) None b.later b.last b.journal b.longer b.named refl was
 named_becomes w n c d (ATakes numbers delivery) b new was = one_named w n c d b.settled (Takes numbers) (Some delivery) b.later b.last b.journal b.longer b.named new was
 
+-- commits are named after the channel is opened again
 pub named_reopens : (w : World) (n : ℕ) (c d : Channel) (cut : ℕ) → Reopens c d cut → CommitsAreNamed w n c → CommitsAreNamed w n d
 named_reopens w n c d cut r was = record {
   beside = ap length r.named ∙ (take_lengths cut c.named (commits c) was.beside ∙ ap length (sym r.shorter));
@@ -105,6 +109,7 @@ named_reopens w n c d cut r was = record {
 
 -- no more deliveries are named
 
+-- a channel that stages no takes names no more deliveries
 pub less_becomes : (c d : Channel) (added : Added) → IsPut added → Becomes c d added → NamedLess c d
 less_becomes c d NoEntry put b p x is = ap (λ (l : List (Option Delivery)). slice_get l p) (sym (b.named ∙ append-nil c.named)) ∙ is
 less_becomes c d (APuts events) put b p x is = from (get_one c.named None p (Some x) (ap (λ (l : List (Option Delivery)). slice_get l p) (sym b.named) ∙ is))
@@ -114,5 +119,6 @@ less_becomes c d (APuts events) put b p x is = from (get_one c.named None p (Som
     from (inr last) = absurd (no_some x last.1)
 less_becomes c d (ATakes numbers delivery) put b p x is = absurd put
 
+-- a channel that is opened again names no more deliveries
 pub less_reopens : (c d : Channel) (cut : ℕ) → Reopens c d cut → NamedLess c d
 less_reopens c d cut r p x is = get_take cut c.named p (Some x) (ap (λ (l : List (Option Delivery)). slice_get l p) (sym r.named) ∙ is)

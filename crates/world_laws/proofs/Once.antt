@@ -113,6 +113,7 @@ among_at n (x ∷ xs) is = from (eqb_tells x n) (among_at n xs)
     from (inl same) rest = (zero, ap (λ (k : ℕ). Some k) same.1)
     from (inr other) rest = let r = rest (or_true (x == n) (is_among xs n) is other.0) in (suc r.0, r.1)
 
+-- a number that has a place in a list is among it
 pub at_among : (n : ℕ) (xs : List ℕ) (i : ℕ) → slice_get xs i ≡ Some n → is_among xs n ≡ true
 at_among n [] i has = absurd (no_some n has)
 at_among n (x ∷ xs) i has = from (among_times n (x ∷ xs))
@@ -137,6 +138,7 @@ taken_place n (Takes numbers ∷ entries) is = from (is_among numbers n) refl (t
 
 -- what is left
 
+-- an event's number is the first one and its place
 pub numbered_at : (first : ℕ) (events : List Content) (k : ℕ) (e : Content) (number : ℕ) → number ≡ first + k → slice_get events k ≡ Some e → slice_get (numbered first events) k ≡ Some (number, e)
 numbered_at first [] k e number is has = absurd (no_some e has)
 numbered_at first (x ∷ events) zero e number is has =
@@ -144,6 +146,7 @@ numbered_at first (x ∷ events) zero e number is has =
     ap (λ (j : ℕ). Some (j, x)) one ∙ ap (λ (y : Content). Some (number, y)) (same_some x e has)
 numbered_at first (x ∷ events) (suc k) e number is has = numbered_at (first + 1) events k e number (omega (arith, is)) has
 
+-- an item whose number was not taken is still left, at some place
 pub stays_in : (xs : List ℕ) (items : List (ℕ × Content)) (i : ℕ) (x : ℕ × Content) → slice_get items i ≡ Some x → is_among xs x.0 ≡ false → (j : ℕ) × (slice_get (without xs items) j ≡ Some x)
 stays_in xs [] i x has isnt = absurd (no_some x has)
 stays_in xs (y ∷ items) zero x has isnt =
@@ -200,6 +203,7 @@ module _ (c : Channel) (right : Balances c) (number : ℕ) (e : Content) (put : 
       differs true x y = cc
       differs false x y = cc
 
+  -- an event that was put is still left, or was taken once
   pub left_or_taken : IsStillLeft c number e ⊎ WasTakenOnce c number
   left_or_taken = from (is_among (taken_numbers c.journal) number) refl
     where

@@ -181,6 +181,7 @@ kept_down w steps n place ack new are rise is =
 
 -- no delivery is named twice
 
+-- no two commits name one delivery
 pub none_twice : (w : World) → Held w → NoneIsNamedTwice w
 none_twice w held = record { acks = acks; outputs = outputs }
   where

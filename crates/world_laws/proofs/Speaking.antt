@@ -133,5 +133,6 @@ module _ (w : World) (n : ℕ) (old : Node) (move : Moved w n old) (here : AtNod
       from (inl was) = still m work.tag work.batch (asked m number work (is.0, was.1, is.2))
       from (inr same) = subst (λ (k : ℕ). IsRequest w' k work.tag work.batch) (sym same.0) (still n work.tag work.batch (works_asked w n old move own_asked number work (ap (λ (x : Node). live x.works number) same.1 ∙ is.2)))
 
+  -- packets agree after the move, and its works were asked for
   pub speaks : PacketsAgree w' × WorksAreAsked w'
   speaks = (record { differ = differ; asked = all_asked; replied = all_replied }, works_are_asked)

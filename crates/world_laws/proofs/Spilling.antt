@@ -78,9 +78,11 @@ module _ (s : State) (kind : s.rules.kind ≡ OnFile) where
           ∙ (one_taken token.number (takes_of s token) item items (items ++ behind.0) ∙ ap (λ (l : List (ℕ × Content)). add_take (settle s) token.number (takes_of s token) l) (sym later)) in
           (take_whole s (takes_of s token) may.0, (may.0, first, no_spill s.rules.kind kind, tt), same)
 
+  -- a put or a take that came to a flush is that flush and one that came to none
   pub spills : SpillsAreFlushes s
   spills = record { put = put_spills; take = take_spills }
 
+-- one more call from a reached state leads to a reached one
 pub reached_on : (s : State) (call : Call) → IsReached s → Admits true s call → KeepsFront call → IsReached (after s call)
 reached_on s call r may front =
     let m : Made = record { pass = 0; call = call; moment = 0 } in

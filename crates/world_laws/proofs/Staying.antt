@@ -20,6 +20,7 @@ AtBoth R (Some c) (Some d) = R c d
 abbrev pub All : (Channel → Channel → Type 0) → List Channel → List Channel → Type 0
 All R cs ds = (place : ℕ) → AtBoth R (slice_get cs place) (slice_get ds place)
 
+-- a channel that is there now came of one at its place
 pub came : (R : Channel → Channel → Type 0) (cs ds : List Channel) → All R cs ds → (place : ℕ) (d : Channel) → slice_get ds place ≡ Some d → (c : Channel) × (slice_get cs place ≡ Some c) × R c d
 came R cs ds all place d is = from (slice_get cs place) refl (subst (λ (y : Option Channel). AtBoth R (slice_get cs place) y) is (all place))
   where
@@ -27,6 +28,7 @@ came R cs ds all place d is = from (slice_get cs place) refl (subst (λ (y : Opt
     from None was r = absurd (subst (λ (y : Option Channel). AtBoth R y (Some d)) was r)
     from (Some c) was r = (c, was, subst (λ (y : Option Channel). AtBoth R y (Some d)) was r)
 
+-- a channel that was there goes on at its place
 pub goes : (R : Channel → Channel → Type 0) (cs ds : List Channel) → All R cs ds → (place : ℕ) (c : Channel) → slice_get cs place ≡ Some c → (d : Channel) × (slice_get ds place ≡ Some d) × R c d
 goes R cs ds all place c is = from (slice_get ds place) refl (subst (λ (x : Option Channel). AtBoth R x (slice_get ds place)) is (all place))
   where
@@ -49,6 +51,7 @@ all_set R cs place c d there same r k = from (eqb_tells k place)
         (subst (λ (x : Option Channel). AtBoth R x (slice_get (slice_set cs place d) place)) (sym there) (subst (λ (y : Option Channel). AtBoth R (Some c) y) (sym (set_here cs place c d there)) r))
     from (inr other) = subst (λ (y : Option Channel). AtBoth R (slice_get cs k) y) (sym (set_there cs place d k other.1)) (all_same R cs same k)
 
+-- what holds of each reopening holds where all channels are opened again
 pub all_again : (R : Channel → Channel → Type 0) (cs ds : List Channel) → ((c d : Channel) (cut : ℕ) → Reopens c d cut → R c d) → AllReopen cs ds → All R cs ds
 all_again R cs ds again all place = from (slice_get cs place) (slice_get ds place) (all place)
   where
@@ -93,6 +96,7 @@ all_go R w n old m same r again = all_run R w n old m tt same r
 
 -- the selector, what is acknowledged and what is taken
 
+-- the selector's required channels stay the same in a move
 pub required_same : (w : World) (n : ℕ) (old : Node) (m : Moved w n old) → (node_after m).required ≡ old.required
 required_same w n old m = from m
   where
@@ -100,10 +104,12 @@ required_same w n old m = from m
     from (Asked tag batch unused) = refl
     from m = refl
 
+-- what a node acknowledged stays at its place
 pub acks_stay : (w : World) (n : ℕ) (old : Node) (m : Moved w n old) → (place : ℕ) (ack : Work) → slice_get old.acks place ≡ Some ack → slice_get (node_after m).acks place ≡ Some ack
 acks_stay w n old (Acknowledged number work is all settled) place ack was = get_front old.acks (work ∷ []) place ack was
 acks_stay w n old m place ack was = was
 
+-- what a node's last sinks took stays at its place
 pub outputs_stay : (w : World) (n : ℕ) (old : Node) (m : Moved w n old) → (place : ℕ) (events : List Content) → slice_get old.outputs place ≡ Some events → slice_get (node_after m).outputs place ≡ Some events
 outputs_stay w n old (Deposited number a c is there last) place events was = get_front old.outputs (a.events ∷ []) place events was
 outputs_stay w n old m place events was = was
@@ -119,6 +125,7 @@ acks_were w n old m place ack has = inl has
 
 -- works and attempts that a mend leaves
 
+-- a work that a mend leaves was live, and has no entry beyond that channel's journal
 pub left_works : (place journal : ℕ) (works : List (Option Work)) (k : ℕ) (one : Work) → live (without_works place journal works) k ≡ Some one → (live works k ≡ Some one) × (has_from place journal one.entries ≡ false)
 left_works place journal [] k one is = absurd (no_some one is)
 left_works place journal (None ∷ works) zero one is = absurd (no_some one is)
@@ -130,6 +137,7 @@ left_works place journal (Some w ∷ works) zero one is = from (has_from place j
     from false has x = (x, ap (λ (y : Work). has_from place journal y.entries) (sym (same_some w one x)) ∙ has)
 left_works place journal (Some w ∷ works) (suc k) one is = left_works place journal works k one is
 
+-- an attempt that a mend leaves was live, and takes from another channel
 pub left_attempts : (place : ℕ) (attempts : List (Option Attempt)) (k : ℕ) (a : Attempt) → live (without_attempts place attempts) k ≡ Some a → (live attempts k ≡ Some a) × (a.channel ≢ place)
 left_attempts place [] k a is = absurd (no_some a is)
 left_attempts place (None ∷ attempts) zero a is = absurd (no_some a is)
@@ -143,6 +151,7 @@ left_attempts place (Some b ∷ attempts) (suc k) a is = left_attempts place att
 
 -- the nodes of the new world
 
+-- a node after one was replaced: another one, or the new one
 pub node_cases : (w : World) (n : ℕ) (old new : Node) (m : ℕ) (node : Node) → AtNode w n old → slice_get (slice_set w.nodes n new) m ≡ Some node → ((m ≢ n) × AtNode w m node) ⊎ ((m ≡ n) × (new ≡ node))
 node_cases w n old new m node here is = from (eqb_tells m n)
   where

@@ -21,6 +21,7 @@ pub record IsBooked (node : Node) : Type 0 where
   pub works : (number : ℕ) (work : Work) → live node.works number ≡ Some work → Stores node commits work
   pub once : (a b : Namer) (e : ℕ × ℕ) → NamesEntry node a e → NamesEntry node b e → a ≡ b
 
+-- both parts of a node as one sentence for all who name an entry
 pub booked_of : (node : Node) → AcksAreStored node → WorksAreStored node → IsBooked node
 booked_of node acks works = record { acks = acks.stored; works = works.stored; once = once }
   where
@@ -29,12 +30,14 @@ booked_of node acks works = record { acks = acks.stored; works = works.stored; o
     once (AnAck i) (AWork k) e x y = sym (works.once k (AnAck i) e y x)
     once (AWork k) b e x y = works.once k b e x y
 
+-- the part on acknowledgements, from that sentence and what they passed
 pub acks_of : (node : Node) → IsBooked node → ((place : ℕ) (ack : Work) → slice_get node.acks place ≡ Some ack → PassedAll node ack) → AcksAreStored node
 acks_of node booked passed = record { stored = booked.acks; passed = passed; once = λ i j a b e p q x y. place_of i j (booked.once (AnAck i) (AnAck j) e (a, p, x) (b, q, y)) }
   where
     place_of : (i j : ℕ) → AnAck i ≡ AnAck j → i ≡ j
     place_of i j h = cc
 
+-- the part on works, from that sentence
 pub works_of : (node : Node) → IsBooked node → WorksAreStored node
 works_of node booked = record { stored = booked.works; once = λ number b e x y. booked.once (AWork number) b e x y }
 
@@ -346,6 +349,7 @@ booked_after w n old m was =
 
 -- an acknowledgement passed each channel that has to take some of its events
 
+-- a channel that is among the entries has one of them
 pub entry_at : (entries : List (ℕ × ℕ)) (channel : ℕ) → is_among (map (λ e. e.0) entries) channel ≡ true → (place : ℕ) × Has entries (channel, place)
 entry_at [] channel is = absurd (cc)
 entry_at (x ∷ entries) channel is = from (eqb_tells x.0 channel) (λ later. entry_at entries channel later)
@@ -368,6 +372,7 @@ passed_on w n old m ack was channel d there full =
     let c = came (λ c d. Unit {0}) old.channels (node_after m).channels (all_go (λ c d. Unit {0}) w n old m (λ c. tt) (λ c d added b. tt) (λ c d cut r. tt)) channel d there in
     was channel c.0 c.1 (ap is_empty (sym (share_same old (node_after m) ack.made channel (required_same w n old m))) ∙ full)
 
+-- after a move each acknowledgement has still passed the channels that it has to
 pub passed_after : (w : World) (n : ℕ) (old : Node) (m : Moved w n old) → ((place : ℕ) (ack : Work) → slice_get old.acks place ≡ Some ack → PassedAll old ack) → (place : ℕ) (ack : Work) → slice_get (node_after m).acks place ≡ Some ack → PassedAll (node_after m) ack
 passed_after w n old (Acknowledged number work is all settled) was place ack has = from (get_one old.acks work place ack has)
   where

@@ -10,10 +10,12 @@ use Rattle.channel_face.specs.Sound.{Opened, AreNumbered}
 use Rattle.world_laws.specs.Agrees.{sum_of, puts_one, takes_one}
 use Rattle.world_laws.proofs.Lists.{same_some, no_some}
 
+-- a transaction that begins adds its own amount to the sum
 pub sum-push : (f : Entry → ℕ) (opened : Opened) (o : ℕ × Entry) → sum_of f (opened ++ o ∷ []) ≡ sum_of f opened + f o.1
 sum-push f [] o = omega arith
 sum-push f (x ∷ opened) o = omega (arith, sum-push f opened o)
 
+-- one that changes trades its old amount for the new one
 pub sum-with : (f : Entry → ℕ) (number : ℕ) (opened : Opened) (old new : Entry) → entry_of number opened ≡ Some old → sum_of f (with_entry number new opened) + f old ≡ sum_of f opened + f new
 sum-with f number [] old new is = absurd (no_some old is)
 sum-with f number (o ∷ opened) old new is = from (o.0 == number) is (sum-with f number opened old new)
@@ -23,6 +25,7 @@ sum-with f number (o ∷ opened) old new is = from (o.0 == number) is (sum-with 
     from true it rest = let same = ap f (same_some o.1 old it) in omega (arith, same)
     from false it rest = omega (arith, rest it)
 
+-- one that ends takes its amount from the sum
 pub sum-without : (f : Entry → ℕ) (number : ℕ) (opened : Opened) (old : Entry) → entry_of number opened ≡ Some old → sum_of f (without_entry number opened) + f old ≡ sum_of f opened
 sum-without f number [] old is = absurd (no_some old is)
 sum-without f number (o ∷ opened) old is = from (o.0 == number) is (sum-without f number opened old)
@@ -56,6 +59,7 @@ open_events number (o ∷ opened) events is = from (o.0 == number) o.1 is (open_
     from false (Puts es) it rest = let longer = length-append es (put_events (entries opened)) in omega (arith, rest it, longer)
     from false (Takes numbers) it rest = rest it
 
+-- where no open transaction is of puts, none has events
 pub no_events : (opened : Opened) → sum_of puts_one opened ≡ 0 → put_events (entries opened) ≡ []
 no_events [] none = refl
 no_events (o ∷ opened) none = from o.1 none (no_events opened)
@@ -66,6 +70,7 @@ no_events (o ∷ opened) none = from o.1 none (no_events opened)
 
 -- the newest transaction
 
+-- the newest transaction changes at the end of the list
 pub with-push : (txn : ℕ) (old new : Entry) (opened : Opened) → AreNumbered txn opened → with_entry txn new (opened ++ (txn, old) ∷ []) ≡ opened ++ (txn, new) ∷ []
 with-push txn old new [] all = from (eqb_tells txn txn)
   where
@@ -79,6 +84,7 @@ with-push txn old new (o ∷ opened) all = from (eqb_tells o.0 txn) (with-push t
     from (inl is) rest = absurd (omega (arith, all.0, is.1))
     from (inr isnt) rest = rw isnt.0 (ap (λ (l : Opened). o ∷ l) rest)
 
+-- the newest transaction ends, and the others are left
 pub without-push : (txn : ℕ) (entry : Entry) (opened : Opened) → AreNumbered txn opened → without_entry txn (opened ++ (txn, entry) ∷ []) ≡ opened
 without-push txn entry [] all = from (eqb_tells txn txn)
   where

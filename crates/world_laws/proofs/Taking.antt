@@ -12,6 +12,7 @@ use Rattle.world_laws.specs.Held.{Balances}
 use Rattle.world_laws.proofs.Lists.{same_some, no_some, and_then-some, unless-some}
 use Rattle.world_laws.proofs.Opens.{takes_of-from}
 
+-- what is left after takes was there before
 pub without_get : (xs : List ℕ) (items : List (ℕ × Content)) (k : ℕ) (x : ℕ × Content) → slice_get (without xs items) k ≡ Some x → (j : ℕ) × (slice_get items j ≡ Some x)
 without_get xs [] k x is = absurd (no_some x is)
 without_get xs (i ∷ items) k x is = from (is_among xs i.0) k is (λ j at. without_get xs items j x at)
@@ -21,6 +22,7 @@ without_get xs (i ∷ items) k x is = from (is_among xs i.0) k is (λ j at. with
     from false zero is rest = (zero, is)
     from false (suc k) is rest = let r = rest k is in (suc r.0, r.1)
 
+-- an item at a place has the number and the event of that place
 pub numbered_get : (first : ℕ) (events : List Content) (j : ℕ) (x : ℕ × Content) → slice_get (numbered first events) j ≡ Some x → (x.0 ≡ first + j) × (slice_get events j ≡ Some x.1)
 numbered_get first [] j x is = absurd (no_some x is)
 numbered_get first (e ∷ events) zero x is =
@@ -46,6 +48,7 @@ pub record Took (c : Channel) (token : Token) (numbers : List ℕ) (got : Channe
   pub journal : got.0.journal ≡ c.journal
   pub named : got.0.named ≡ c.named
 
+-- what a take from an open transaction gave is the event of the number that it added
 pub took : (c : Channel) (token : Token) (numbers : List ℕ) (got : Channel × Content) → Balances c → token.life ≡ c.state.life → entry_of token.number c.state.opened ≡ Some (Takes numbers) → taken token c ≡ Some got → Took c token numbers got
 took c token numbers got right life opened is =
     let s : State = c.state in
