@@ -47,7 +47,7 @@ agent_is_no_check words name file name' file' is c = let a = agent_letter words 
 pub agent_is_no_load : (words : List (List ℕ)) (name file : List ℕ) (n : ℕ) (dir : List ℕ) → IsAgent words name file → IsLoad words n dir → ⊥
 agent_is_no_load words name file n dir is l = let a = agent_letter words name file is in let b = load_letter words n dir l in omega (arith, a, b)
 
--- words of `pipe` are no other command
+-- words of `pipe` are not those of `check`
 pub pipe_is_no_check : (words : List (List ℕ)) (dir name file : List ℕ) → IsPipe words dir → IsCheck words name file → ⊥
 pipe_is_no_check words dir name file is c = let a = pipe_letter words dir is in let b = check_letter words name file c in omega (arith, a, b)
 
@@ -55,7 +55,7 @@ pipe_is_no_check words dir name file is c = let a = pipe_letter words dir is in 
 pub pipe_is_no_load : (words : List (List ℕ)) (dir : List ℕ) (n : ℕ) (other : List ℕ) → IsPipe words dir → IsLoad words n other → ⊥
 pipe_is_no_load words dir n other is l = let a = pipe_letter words dir is in let b = load_letter words n other l in omega (arith, a, b)
 
--- nor are those of `load`
+-- words of `load` are not those of `check`
 pub load_is_no_check : (words : List (List ℕ)) (n : ℕ) (dir name file : List ℕ) → IsLoad words n dir → IsCheck words name file → ⊥
 load_is_no_check words n dir name file is c = let a = load_letter words n dir is in let b = check_letter words name file c in omega (arith, a, b)
 
@@ -84,7 +84,7 @@ read_some words found first command read is same = subst (IsCommand words) same 
 pub read_none : (words : List (List ℕ)) (found : Option Command) → MatchOption found (IsNone words) (λ c. IsCommand words c) → found ≡ None → IsNone words
 read_none words found read is = subst (λ (o : Option Command). MatchOption o (IsNone words) (λ c. IsCommand words c)) is read
 
--- no command that runs ends with status 1
+-- a run of `pipe` never ends with status 1
 pub pipe_never_one : (n : ℕ) → IsPipeStatus n → n ≡ 1 → ⊥
 pipe_never_one n (inl a) one = omega (arith, a, one)
 pipe_never_one n (inr (inl a)) one = omega (arith, a, one)

@@ -181,7 +181,7 @@ first_moved s call new kept front (inl m) = rw m.keeps (omega (arith, m.first))
 first_moved s call new kept front (inr (inl m)) = rw m.keeps m.first
 first_moved s call new kept front (inr (inr m)) = first_kept s m.source kept new.first (m.front front) m.keeps m.first
 
--- the number of the next event rises by the puts in the journal, where no reopen read its list
+-- the number of the next event to be settled rises by the puts in the journal, where no reopen read its list
 pub first_run : (s : State) (h : List Step) → ReadsNone h → (state_after s h).first ≡ s.first + length (put_events (journal s h))
 first_run s [] none = omega arith
 first_run s (step ∷ h) none =

@@ -42,7 +42,7 @@ module _ (number : ℕ) (o0 o1 : Option Told) (law : Law o0) where
   at_rest : (t : Told) (text : List ℕ) → IsWritten t number text → Changes (Check number) IsPassedFile 0 t t
   at_rest t text w = changes_start t (Check number) IsPassedFile _ _ (written_at t text w) (λ file. closed_file w.touched w.longest file w.behind)
 
-  -- where a piece goes there is a file, and it is as long
+  -- where a piece goes there is a file, which reaches up to it
   pub piece_place : (at : ℕ) (piece : List ℕ) → WhereTold o0 (λ t. (text : List ℕ) × IsSoFar t number at piece text) → WhereTold o0 (λ t. (was : List ℕ) × (t.reads (Check number) ≡ Some was) × (at ≤ length was))
   piece_place at piece is t told = let s = (is t told).1 in (0 ∷ s.front, s.written.reads, omega (arith, s.at_is))
 
@@ -89,7 +89,7 @@ module _ (number : ℕ) (o0 o1 : Option Told) (law : Law o0) where
       let w = (is t i0).1 in
       changes_on Sync r t t u (Check number) IsPassedFile 0 _ _ (written_at t (is t i0).0 w) (law t i0) tt (at_rest t (is t i0).0 w) leads (λ file. closed_file w.touched w.longest file w.behind)) does
 
-  -- after a sync no crash leaves other bytes than the text behind a closed commit byte
+  -- after a sync that succeeded no crash leaves other bytes than the closed commit byte and the text
   pub sealed : (text : List ℕ) → Does (On (Check number) Sync) all_done o0 o1 → WhereTold o0 (λ t. IsWritten t number text) → WhereTold o1 (λ t. IsKept t number (0 ∷ text))
   sealed text does is u told =
       let b = back o0 o1 (Leads (On (Check number) Sync) all_done) does u told in
@@ -157,7 +157,7 @@ module _ (number : ℕ) where
     making : (r : Result (Unit {0}) Failed) (t u : Told) → o0 ≡ Some t → Leads (On (Check number) Make) r t u → Changes (Check number) IsPassedFile 0 t u
     making r t u is leads = changes_on Make r t t u (Check number) IsPassedFile 0 None Gone (at t is) (law t is) refl (changes_start t (Check number) IsPassedFile None Gone (at t is) unmade) leads under_making
 
-    -- a crash while the file is made leaves one that is passed over
+    -- a crash while the file is made leaves none, or one that is passed over
     pub make1 : (r : Result (Unit {0}) Failed) → Does (On (Check number) Make) r o0 o1 → Tells o0 o1 Makes
     make1 r does = tells_more o0 o1 (Leads (On (Check number) Make) r) Makes (λ t u i0 i1 leads. more t u (making r t u i0 leads)) does
 
@@ -168,7 +168,7 @@ module _ (number : ℕ) where
       writing : (r : Result (Unit {0}) Failed) (t u v : Told) → o1 ≡ Some u → So 0 Made t u → Leads (On (Check number) (Write 0 (0 ∷ []))) r u v → Changes (Check number) IsPassedFile 0 t v
       writing r t u v is so leads = changes_on (Write 0 (0 ∷ [])) r t u v (Check number) IsPassedFile 0 _ _ so.stands (law1 u is) tt so.since leads under_writing
 
-      -- a crash while the closed commit byte is written leaves a file that is passed over
+      -- a crash up to the write of the closed commit byte leaves no file, or one that is passed over
       pub make2 : (r : Result (Unit {0}) Failed) → Does (On (Check number) (Write 0 (0 ∷ []))) r o1 o2 → Tells o0 o2 Makes
       make2 r does = follows o0 o1 o2 (So 0 Made) (Leads (On (Check number) (Write 0 (0 ∷ []))) r) Makes (λ t u v i0 i1 i2 so leads. more t v (writing r t u v i1 so leads)) (made does1) does
 
@@ -178,7 +178,7 @@ module _ (number : ℕ) where
           (λ t u v i0 i1 i2 so leads. record { since = writing all_done t u v i1 so leads; stands = at_after (Write 0 (0 ∷ [])) u v (Check number) _ _ so.stands leads }) (made does1) does
 
       module _ (o3 : Option Told) (law2 : Law o2) (does2 : Does (On (Check number) (Write 0 (0 ∷ []))) all_done o1 o2) where
-        -- a crash while the closed commit byte is synced leaves a file that is passed over
+        -- a crash up to the sync of the closed commit byte leaves no file, or one that is passed over
         pub make3 : (r : Result (Unit {0}) Failed) → Does (On (Check number) Sync) r o2 o3 → Tells o0 o3 Makes
         make3 r does =
             follows o0 o2 o3 (So 0 First) (Leads (On (Check number) Sync) r) Makes
@@ -240,7 +240,7 @@ module _ (number : ℕ) (text : List ℕ) where
     written1 does = tells_more o0 o1 (Leads (On (Check number) (Write 0 (1 ∷ []))) all_done) (Sofar Opened) (λ t u i0 i1 leads. record { since = opening all_done t u i0 leads; stands = at_after (Write 0 (1 ∷ [])) t u (Check number) _ _ (kept_at t i0) leads }) does
 
     module _ (o2 : Option Told) (law1 : Law o1) (does1 : Does (On (Check number) (Write 0 (1 ∷ []))) all_done o0 o1) where
-      -- a crash while the open commit byte is synced leaves the file passed over, or open with its text
+      -- a crash up to the sync of the open commit byte leaves the file passed over, or open with its text
       pub open2 : (r : Result (Unit {0}) Failed) → Does (On (Check number) Sync) r o1 o2 → Tells o0 o2 OpensGate
       open2 r does =
           follows o0 o1 o2 (Sofar Opened) (Leads (On (Check number) Sync) r) OpensGate

@@ -189,7 +189,7 @@ folders_all was told faulty faults file after first now none steps on ends t is 
     let all : u.done ≡ logs = sym (append-nil u.done) ∙ ap (λ (l : List LogFile). u.done ++ l) (sym (no_rest t.reads after u.rest u.are (ends t (on.same ∙ is)))) ∙ sym u.split in
     subst (λ (l : List LogFile). GoesThrough (lines l) first now) all u.goes
 
--- the steps counted are at most as many as the records that were applied
+-- the steps counted are at most as many as the records of the log files from that one on
 pub folders_ticks : (was told : Option Told) (faulty faults file from : ℕ) (first now : Indexing) (none steps more : ℕ) → FoldersOn was told faulty faults file from first now none steps → more ≡ steps
     → WhereBehind was file (λ logs. more ≤ none + record_count (lines logs))
 folders_ticks was told faulty faults file from first now none steps more on same t is logs are =

@@ -40,7 +40,7 @@ rises_pair low (s ∷ slots) top zero (suc j) a b rises less is there =
 rises_pair low (s ∷ slots) top (suc i) zero a b rises less is there = absurd (omega (arith, less))
 rises_pair low (s ∷ slots) top (suc i) (suc j) a b rises less is there = rises_pair (s.number + 1) slots top i j a b rises.1 (omega (arith, less)) is there
 
--- a slot with a number above all others may go to the end
+-- a slot whose number is not below where the others end may go to the end
 pub rises_push : (low : ℕ) (slots : List Slot) (top : ℕ) (s : Slot) → Rises low slots top → top ≤ s.number → Rises low (slots ++ s ∷ []) (s.number + 1)
 rises_push low [] top s rises above = (omega (arith, rises, above), omega arith)
 rises_push low (x ∷ slots) top s rises above = (rises.0, rises_push (x.number + 1) slots top s rises.1 above)
@@ -419,7 +419,7 @@ with_state s state = record { number = s.number; at = s.at; file = s.file; lengt
 pub changed : (s : Slot) (state : State) → Changes s (with_state s state)
 changed s state = record { number = refl; at = refl; file = refl; long = refl }
 
--- an event that is left has a place among the slots
+-- the place of an event that is left is within the slots
 pub live_at : (slots : List Slot) (top number place : ℕ) → Rises 0 slots top → IsLive (live_of slots) number → IsFront slots number place → place < length slots
 live_at slots top number place rises live front = let s = found_live slots number place 0 top rises live front in in_range slots place s.0 s.1.item
 

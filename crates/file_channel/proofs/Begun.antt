@@ -77,7 +77,7 @@ parts_same : (t u : Told) → (u ≡ t) ⊎ DidPart Settle t u → AreSame t.rea
 parts_same t u (inl same) name = ap (λ (v : Told). v.reads name) same
 parts_same t u (inr part) name = part.others name refl
 
--- of one whose first settle failed, which is counted as a fault
+-- an opening whose first settle failed is refused, and counted as a fault
 pub refused_settle : (was now : Option Told) (e : Failed) (before later capacity : ℕ) → ReadsAreLeft was → Tells was now (Leads {T = Unit {0}} Settle (Err e)) → before ≤ later → Rose before later → IsRefused was now before later capacity causes.DiskFault
 refused_settle was now e before later capacity reads leads rises fault = record {
   why = λ t told. tt;
@@ -318,7 +318,7 @@ module _ (was now : Option Told) (faults count : ℕ) (limits : Limits) (c : Fil
   abbrev start_as : Opening
   start_as = record { rules = record { kind = File; limits = limits }; base = opens.base; txn = opens.txn; faults = faults; from = moment_of was + 1; tells = is_some_of now }
 
-  -- its rules are those of a file channel within the limits
+  -- the rules of an opened channel are those of a file channel within its limits
   pub opened_rules : (opened_as was faults now c).rules ≡ record { kind = File; limits = limits }
   opened_rules = ap (λ (n : Numbers). n.rules) opens.state.looks.numbers
 

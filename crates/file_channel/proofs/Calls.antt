@@ -350,7 +350,7 @@ kept_state told told' c w s same is state placed = record {
 
 -- which refusals came to a flush
 
--- a put came to a flush that failed by a disk fault alone
+-- a refused put came to a flush only where the disk failed in it
 pub flushes_put : (token : Token) (event : Content) (e : PutRefused) → flushes (Put token event (Err e)) ≡ true → e ≡ PutNo.DiskFault
 flushes_put token event PutNo.Stale is = absurd (cc)
 flushes_put token event PutNo.Broken is = absurd (cc)
@@ -361,7 +361,7 @@ flushes_put token event (PutNo.Full n) is = absurd (cc)
 flushes_put token event PutNo.NoMemory is = absurd (cc)
 flushes_put token event PutNo.DiskFault is = refl
 
--- a take came to a flush that failed by a disk fault alone
+-- a refused take came to a flush only where the disk failed in it
 pub flushes_take : (token : Token) (e : TakeRefused) → flushes (Take token (Err e)) ≡ true → e ≡ TakeNo.DiskFault
 flushes_take token TakeNo.Stale is = absurd (cc)
 flushes_take token TakeNo.Broken is = absurd (cc)
@@ -398,7 +398,7 @@ spent_puts : (s : State) (o : Option (List Content)) (event : Content) → true 
 spent_puts s None event some still kind = absurd (cc)
 spent_puts s (Some events) event some still kind = (still, refl, kind)
 
--- a put is refused, and nothing is changed
+-- where no log file is left, a put is refused and nothing is changed
 pub spent_put : (told : Option Told) (old : Logged) (token : Token) (event : Content) (s : State) → IsStateOf told old s → true ≡ is_some_of (puts_of s token) → s.broken ≡ false → Steps told told old old (Put token event (Err (PutNo.Spent File))) s
 spent_put told old token event s is some still = record { admitted = spent_puts s (puts_of s token) event some still is.whole.kind; stands = is; waits = refl }
 
@@ -406,6 +406,6 @@ spent_takes : (tells : Bool) (s : State) (o : Option (List ℕ)) → true ≡ is
 spent_takes tells s None some still kind = absurd (cc)
 spent_takes tells s (Some numbers) some still kind = (still, refl, kind)
 
--- a take is refused, and nothing is changed
+-- where no log file is left, a take is refused and nothing is changed
 pub spent_take : (told : Option Told) (old : Logged) (token : Token) (s : State) → IsStateOf told old s → true ≡ is_some_of (takes_of s token) → s.broken ≡ false → Steps told told old old (Take token (Err (TakeNo.Spent File))) s
 spent_take told old token s is some still = record { admitted = spent_takes (is_some_of told) s (takes_of s token) some still is.whole.kind; stands = is; waits = refl }

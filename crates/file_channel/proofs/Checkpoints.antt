@@ -136,7 +136,7 @@ check_settled s (Err (CheckNo.Spent counter)) = refl
 check_settled s (Err CheckNo.DiskFault) = refl
 check_settled s (Err CheckNo.CheckFault) = refl
 
--- they change by what the checkpoint's flush settled
+-- the channel's counts change by what the checkpoint's flush settled
 pub check_tally : (old new : Counts) (reply : Reply) (puts takes : ℕ) (s : State) (r : Result (Unit {0}) CheckRefused) → new ≡ noted old notes.Checkpoint reply → reply.settled_puts ≡ cond (is_made r) puts 0 → reply.settled_takes ≡ cond (is_made r) takes 0 → puts ≡ length (put_events s.staged) → takes ≡ capped (length (taken_numbers s.staged))
     → tally_of new ≡ counted s (Checkpoint r) (tally_of old)
 check_tally old new reply puts takes s r is reply_puts reply_takes puts_are takes_are =

@@ -189,7 +189,7 @@ module _ {A B : Type 0} (wishes : List ChannelWish) (cs : List (OpenedChannel A 
         subst (IsAt table_of shares place) (sym (home_of place (some place low) d low)) (is_at place low (get_or cs place (some place low)).home (here place low).home);
   }
 
-  -- the pass at home of each channel carries a number of its own
+  -- each pass at home has its own number among those it carries
   pub own_are : (place : ℕ) (d : Known) → place < length homes → HasOwn (get_or homes place d)
   own_are place d below =
       let low : place < length cs = omega (arith, below, many_homes) in

@@ -81,7 +81,7 @@ pub last_keep : {C : Type 0} (hands : List (List Known)) (seats front : List (Ke
 last_keep {C} hands seats front seat same enough =
     subst (Suffice hands) (ap (map (λ (s : KeepSeat C). s.channel)) same ∙ map-append (λ (s : KeepSeat C). s.channel) front (seat ∷ [])) enough
 
--- the workers that keep channels use the channels of their plans
+-- the workers that keep channels use the channels of their seats
 pub keeps_places : {C : Type 0} (seats : List (KeepSeat C)) (jobs : List (KeepWorker Known C)) → Zips IsKeepOf seats jobs → flat_map keep_channels jobs ≡ map (λ (s : KeepSeat C). s.channel) seats
 keeps_places [] [] of = refl
 keeps_places [] (job ∷ jobs) of = absurd of

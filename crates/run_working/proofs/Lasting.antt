@@ -52,7 +52,7 @@ all_both P Q (x ∷ xs) p q = All-cons (λ a. P a × Q a) x xs (All-head P x xs 
 
 module _ {R A B : Type 0} (disk : A → Opening → List Step → Type 0) (memory : B → Opening → List Step → Type 0)
     {N C K : Type 0} (Means : Meaning K) (moments : C → Option (ℕ → ℕ)) (heard : N → Heard) (stands : N → Option Endpoint) where
-  -- a listener's worker is told of in what the passes at home have seen later
+  -- a listener's worker is told of later too, where no other call has its numbers since
   pub listen_stays : (shares : List (EitherShared A B)) (homes last : List Known) → EachGoesOn homes last → (job : ListenWorker Known N C K) (v w : ListenWorker (EitherPort R A B) N C K) (listener : N)
       → All IsNew job.ports.items → AreSilentAt homes last job.channels.items job.ports.items → IsListenOpened shares job v → ListenRuns disk memory Means moments heard stands v w
       → IsListenEnded pass_of homes w listener → IsListenTold Means moments heard shares last job listener
@@ -65,7 +65,7 @@ module _ {R A B : Type 0} (disk : A → Opening → List Step → Type 0) (memor
 
 module _ {R A B : Type 0} (disk : A → Opening → List Step → Type 0) (memory : B → Opening → List Step → Type 0)
     {I O C K : Type 0} (Means : Meaning K) (moments : C → Option (ℕ → ℕ)) (talk : I → O → Talk) where
-  -- a worker of lines is told of in what the passes at home have seen later
+  -- a worker of lines is told of later too, where no other call has its numbers since
   pub line_stays : (shares : List (EitherShared A B)) (homes last : List Known) → EachGoesOn homes last → (job : LineWorker Known I O C K) (v w : LineWorker (EitherPort R A B) I O C K) (back : LineEnded I O)
       → All IsNew job.ports.items → AreSilentAt homes last job.channels.items job.ports.items → IsLineOpened shares job v → LineRuns disk memory Means moments talk v w
       → IsLineEnded pass_of homes w back → IsLineTold Means moments talk shares last job back

@@ -201,7 +201,7 @@ module _ {S C : Type 0} (sink : Told S) (moments : C → Option (ℕ → ℕ)) w
     to_go [] at = tt
     to_go (w ∷ ws) at = ((at.0, λ d. silent_self w.port.number (get_or homes w.channel d)), to_go ws at.1)
 
-  -- sinks with their rounds and drainings are told of in each longer history
+  -- sinks with their rounds and drainings are told of in each longer history that has no other call of their numbers
   pub sinks_whole : (A B : Type 0) → SinksAreWhole A B sink moments
   sinks_whole A B shares homes drained last jobs workers ends backs told at others all behind =
       all_whole shares homes last jobs workers homes ends backs drained told (to_go shares homes last workers (recursion_from_All (IsSinkHome homes) workers at)) others all (recursion_from_All (IsSilentAt drained last) workers behind)

@@ -93,7 +93,7 @@ one_fair e s call moment own is fair = subst (AreFairOwn e) (sym is) (fair, tt)
 pub none_fair : (e own : List Own) → own ≡ [] → AreFairOwn e own
 none_fair e own is = subst (AreFairOwn e) (sym is) tt
 
--- a fair call stays so where it was not made, as no more calls are counted
+-- what came of a fair call is fair: the call, or none where no more are counted
 pub made_fair : (seen : ℕ) (b : Bool) (call : Call) (s : State) (e own : List Own) → IsMade seen b call s own → IsFairOwn e s call → AreFairOwn e own
 made_fair seen false call s e own made fair = one_fair e s call made.0 own made.1 fair
 made_fair seen true call s e own made fair = none_fair e own made.0

@@ -73,7 +73,7 @@ AllRun ts = AllByRecursion Runs ts
 abbrev pub RefusesFor : FaceRefused → Track → Type 0
 RefusesFor cause t = IsForLimit t.start t.whole t.number cause
 
--- a channel that refuses for a limit does so also by a track of its earlier calls
+-- a channel that refuses for a limit does so by each track of the same histories
 pub at_behind : (cause : FaceRefused) (ts us : List Track) (place : ℕ) → Zips IsBehind ts us → AtPlace (RefusesFor cause) us place → AtPlace (RefusesFor cause) ts place
 at_behind cause [] us place zips is = from us zips is
   where
@@ -285,7 +285,7 @@ module _ {B : Type 0} (Means : Meaning B) (selector : Selector) (host : HostName
   line_sound old new line verdict r (inr (is, same)) =
       rows_none old.route.ports new.route.ports (IsSound old.route.ports verdict) (ap (λ (x : Into Track B). x.route.ports) same) r (subst (IsSound old.route.ports) (sym is) tt)
 
-  -- before some calls, whatever they are, the tracks are of the same histories
+  -- where tracks run, those before some calls, whatever these are, run too and are behind them
   pub called : (olds news : List Track) → AllRun news → Zips IsCalled olds news → Rows olds news (Unit {0})
   called [] [] r is = record { runs = tt; behind = tt; is = tt }
   called [] (new ∷ news) r is = absurd is
@@ -352,11 +352,11 @@ mended_called OnDisk (old ∷ olds) [] news is = absurd is
 mended_called OnDisk (old ∷ olds) (answer ∷ answers) [] is = absurd is
 mended_called OnDisk (old ∷ olds) (answer ∷ answers) (new ∷ news) is = ((is.0.0, is.0.1), mended_called (λ place. OnDisk (suc place)) olds answers news is.1)
 
--- a line that a source took has a sound verdict
+-- a line that a source took has a sound verdict where nothing failed in its channels
 pub line_is_sound : {B : Type 0} (Means : Meaning B) → LineIsSound Means
 line_is_sound Means selector host old new line verdict takes calm ended = (line_sound Means selector host old new line verdict (all_run new.route.ports calm ended) takes).is
 
--- each line of a session has a sound verdict
+-- each line of a session has a sound verdict where nothing failed in its channels
 pub lines_are_sound : {B : Type 0} (Means : Meaning B) → LinesAreSound Means
 lines_are_sound Means max ack stops selector host old new end session calm ended =
     (all_sound Means selector host session.done old.store new.store (all_run new.store.into.route.ports calm ended) session.takes).is

@@ -92,7 +92,7 @@ module _ {B : Type 0} (Means : Meaning B) (selector : Selector) (host : HostName
             sound = (find_sound round.found old one.between mid one.serves.finds, rest.sound);
           }
 
-      -- each line of a listener's rounds has a sound verdict
+      -- each line of a listener's rounds has a sound verdict where nothing failed in its channels
       pub rounds_sound : (rounds : List Round) (old new : Serving (Into Track B)) → (ran : Rounds (Session rules Gave selector Means host) Mends rounds old new)
           → AllByRecursion IsCalm new.into.route.ports → AllByRecursion HasEnded new.into.route.ports → AreSoundRounds Means selector host rules Mends rounds old new ran
       rounds_sound rounds old new ran calm ended = (rounds_run rounds old new (all_run new.into.route.ports calm ended) ran).sound

@@ -102,7 +102,7 @@ module _ {F : Type 0} (pass : F → Known) (saw : F → List Own → State → T
       goes_face old new once.same _ once.calls
       (λ tells more run all it. batch_over tells (pass new).view.numbers (pass new).view.base (pass new).view.seen run (saw new) (stood new) _ events result (owned (pass old).view) more ([], append-nil (owned (pass old).view ++ more) ∙ all) it)
 
-  -- a batch that is put leaves no transaction open
+  -- a batch that is put leaves no transaction of the pass open where none was before
   pub puts_over : PutsAreOver pass saw kept
   puts_over events result old new once = (put events result old new once).stays
 
@@ -156,11 +156,11 @@ module _ {F : Type 0} (pass : F → Known) (saw : F → List Own → State → T
       rounds (turn ∷ turns) a b (next, (between, first, last), rest) =
           goes_then (pass a.from) (pass next.from) (pass b.from) (goes_then (pass a.from) (pass between.from) (pass next.from) (turned a between turn first) (mended (needs_mend turn) between next last)) (rounds turns next b rest)
 
-  -- the rounds of a sink leave no transaction open
+  -- the rounds of a sink leave no transaction of its pass open where none was before
   pub rounds_over : (on_disk : F → Type 0) {S : Type 0} (sink : Told S) → RoundsAreOver pass saw kept on_disk sink
   rounds_over on_disk sink batch turns old new made = (rounds sink batch on_disk turns old new made).stays
 
-  -- the draining of a channel leaves no transaction open
+  -- the draining of a channel leaves no transaction of the pass open where none was before
   pub drains_over : {S : Type 0} (sink : Told S) → DrainsAreOver pass saw kept sink
   drains_over sink batch end old new drain =
       (goes_then (pass old.from) (pass drain.between.from) (pass new.from) (deliveries sink batch drain.counts old drain.between drain.deliveries) (drain_end sink batch end drain.between new drain.ends)).stays

@@ -182,10 +182,10 @@ module _ {F : Type 0} (pass : F → Known) (saw : F → List Own → State → T
           into_then a.into next.into b.into
           (into_then a.into one.between.into next.into (finds round.found a one.between one.serves.finds) (mends_if (is_due a.due round.found) one.between.into round.mends next.into one.mends)) (rounds made next b rest)
 
-  -- a batch over several ports leaves no transaction open
+  -- a batch over several ports leaves no transaction of theirs open where none was before
   pub batches_over : {B : Type 0} (Means : Meaning B) → BatchesAreOver pass saw kept Means
   batches_over Means selector host moment old new batch verdict accepted = all_stay old.ports new.ports (accepts Means selector host moment old new batch verdict accepted)
 
-  -- the rounds of a listener leave no transaction open
+  -- the rounds of a listener leave no transaction of its ports open where none was before
   pub listens_over : (on_disk : F → Type 0) {B : Type 0} (Means : Meaning B) → ListensAreOver pass saw kept on_disk Means
   listens_over on_disk Means rules selector host made old new ran = all_stay old.into.route.ports new.into.route.ports (rounds Means selector host on_disk rules made old new ran)

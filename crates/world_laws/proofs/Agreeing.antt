@@ -76,7 +76,7 @@ size_free : (k : Kind) (s : State) (e : Content) → k ≡ OnFile → size e ≤
 size_free OnFile s e is small room = rw (lt_false 1048576 (size e) small, le_false s.rules.limits.capacity (count s) room) refl
 size_free other s e is small room = absurd (cc)
 
--- a put that fits, in a channel that is not broken and has room, is not refused
+-- a put that fits, in a channel on a disk that is not broken and has room, is not refused
 pub put_free : (s : State) (events : List Content) (e : Content) → s.broken ≡ false → length events < s.rules.limits.txn_capacity → s.rules.kind ≡ OnFile → size e ≤ 1048576 → count s < s.rules.limits.capacity → put_refusal s (Some events) e ≡ None
 put_free s events e broken few kind small room = cond_false s.broken _ _ None broken (cond_false (nat_le s.rules.limits.txn_capacity (length events)) _ _ None (le_false s.rules.limits.txn_capacity (length events) few) (size_free s.rules.kind s e kind small room))
 
